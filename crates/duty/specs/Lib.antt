@@ -1,0 +1,3 @@
+pub mod Duties
+pub mod Runs
+pub mod Logs
