@@ -1,7 +1,11 @@
 -- The letters of the duty statuses, and which statuses rest, drive and are on duty. Assumes nothing.
-use mathlib.Core.Bool.{Bool, true, false, cond, not}
-use Prim.Native.Nat.{ℕ}
+use mathlib.Core.Bool.{Bool, true, false, cond}
+use mathlib.Core.List.{List, map}
+use mathlib.Core.Path.{_≡_}
+use Prim.Native.Nat.{ℕ, _<_}
 use lib.Dec.{eqb}
+use lib.ListN.{length, getD}
+use Rattle.std.specs.Options.{isSome, valueOr}
 use Rattle.std.specs.declared.option.Option.{Option}
 use Rattle.std.specs.declared.option.Option.the-variants.{Some, None}
 use Rattle.duty.specs.declared.Duty.{Duty}
@@ -32,3 +36,11 @@ abbrev pub working : Duty → Bool
 working Rest = false
 working Work = true
 working Drive = true
+
+-- every byte is a letter
+abbrev pub Letters : List ℕ → Type 0
+Letters bytes = (k : ℕ) → k < length bytes → isSome (duty-of (getD bytes k 0)) ≡ true
+
+-- the log that letters spell
+abbrev pub spelt : List ℕ → List Duty
+spelt bytes = map (λ b. valueOr (duty-of b) Rest) bytes

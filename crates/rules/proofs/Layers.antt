@@ -49,6 +49,7 @@ module _ {O U : Type 0} (nu : O → ℕ → Duty → Option Violation) (au : O �
   pub allowed-both : (l : List Duty) (s : Stacked O U) (q : ℕ) → Allowed nl al (s .below) q l → Allowed nu au (s .own) q l → Allowed both-name both-move s q l
   allowed-both [] s q h k = tt
   allowed-both (x ∷ l) s q h k =
-      let e = moved-both (nl (s .below) q x) (nu (s .own) q x) (record { own = au (s .own) q x; below = al (s .below) q x }) s (h .0) (k .0) in
-      ( named-both n (nl (s .below) q x) (nu (s .own) q x) (h .0) (k .0),
-        subst (λ t. Allowed both-name both-move t (q + 1) l) (sym e) (allowed-both l (record { own = au (s .own) q x; below = al (s .below) q x }) (q + 1) (h .1) (k .1)) )
+      let e = moved-both (nl (s .below) q x) (nu (s .own) q x) (record { own = au (s .own) q x; below = al (s .below) q x }) s (h .0) (k .0) in (
+        named-both n (nl (s .below) q x) (nu (s .own) q x) (h .0) (k .0),
+        subst (λ t. Allowed both-name both-move t (q + 1) l) (sym e) (allowed-both l (record { own = au (s .own) q x; below = al (s .below) q x }) (q + 1) (h .1) (k .1)),
+      )

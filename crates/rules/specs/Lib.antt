@@ -1,2 +1,4 @@
 pub mod Walk
 pub mod Layers
+pub mod Refusals
+pub mod Judged

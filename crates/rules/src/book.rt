@@ -30,6 +30,7 @@ pub trait RuleBook: Copy + Drop {
 
     // The lowest and the highest number of the rules that the book itself owns.
     const LOWEST: u8;
+
     const HIGHEST: u8;
 
     // The state as plain figures, and which figures a state can have.

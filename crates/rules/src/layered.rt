@@ -46,6 +46,7 @@ pub impl<L: RuleBook, B: RuleBook> RuleBook for Layered<L, B> as LayeredRuleBook
     type Row = Stacked<L::Row, B::Row>;
 
     const LOWEST: u8 = L::LOWEST;
+
     const HIGHEST: u8 = L::HIGHEST;
 
     ghost figures = { λ b. record { own = L·RuleBook .figures (b .own); below = B·RuleBook .figures (b .below) } };

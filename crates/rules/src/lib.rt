@@ -1,4 +1,6 @@
 // What a rule book is, one book piled on another, and the judge of a log.
-pub mod breach;
 pub mod book;
+pub mod breach;
+pub mod judge;
 pub mod layered;
+pub mod refusal;

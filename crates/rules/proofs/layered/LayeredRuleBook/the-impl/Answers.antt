@@ -15,9 +15,10 @@ keeps-law g a b q x sa sb short better none =
 pub judged-law : need.judged-law
 judged-law g s l ss short =
     let up = g .L·RuleBook·met .judged (s .own) l (ss .0) short in
-    let low = g .B·RuleBook·met .judged (s .below) l (ss .1) short in
-    ( (λ h. allowed-both _ _ _ _ _ l _ 0 (low .0 (h .0)) (up .0 (h .1))),
-      (λ h. let p = allowed-parts _ _ _ _ _ l _ 0 h in (low .1 (p .0), up .1 (p .1))) )
+    let low = g .B·RuleBook·met .judged (s .below) l (ss .1) short in (
+      (λ h. allowed-both _ _ _ _ _ l _ 0 (low .0 (h .0)) (up .0 (h .1))),
+      (λ h. let p = allowed-parts _ _ _ _ _ l _ 0 h in (low .1 (p .0), up .1 (p .1))),
+    )
 
 pub fixed-law : need.fixed-law
 fixed-law g s q x l =
