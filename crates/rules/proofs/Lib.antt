@@ -1,3 +1,4 @@
 pub mod Walk
 pub mod Layers
 pub mod Following
+pub mod Along

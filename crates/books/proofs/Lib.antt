@@ -1,0 +1,5 @@
+pub mod Broken
+pub mod Tied
+pub mod Counters
+pub mod Limits
+pub mod Shift

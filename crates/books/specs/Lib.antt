@@ -1,0 +1,5 @@
+pub mod Bounds
+pub mod Sentences
+pub mod Sets
+pub mod Period
+pub mod UsShift

@@ -1,0 +1,3 @@
+// The rule books, and the named rule sets made of them.
+pub mod period;
+pub mod us_shift;
