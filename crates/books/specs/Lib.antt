@@ -1,4 +1,5 @@
 pub mod Bounds
+pub mod Pauses
 pub mod Sentences
 pub mod Sets
 pub mod Period

@@ -1,3 +1,4 @@
 // The rule books, and the named rule sets made of them.
+pub mod pause;
 pub mod period;
 pub mod us_shift;
