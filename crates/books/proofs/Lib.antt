@@ -3,3 +3,4 @@ pub mod Tied
 pub mod Counters
 pub mod Limits
 pub mod Shift
+pub mod Breaks

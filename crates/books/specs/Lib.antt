@@ -4,3 +4,4 @@ pub mod Sentences
 pub mod Sets
 pub mod Period
 pub mod UsShift
+pub mod DrivingBreak

@@ -12,7 +12,8 @@ use Prim.Native.Nat.{ℕ, _+_, _<_}
 use lib.ListN.{length}
 use Rattle.duty.specs.declared.Duty.{Duty}
 use Rattle.rules.specs.declared.breach.Breach.{Breach}
-use Rattle.books.specs.Sentences.{Rule, rule-number, Keeps, shift-elapsed, shift-driving}
+use Rattle.books.specs.declared.pause.Pause.{Pause}
+use Rattle.books.specs.Sentences.{Rule, rule-number, Keeps, shift-elapsed, shift-driving, driving-break, duty-cycle}
 
 abbrev pub placed : ℕ → List (List Rule) → List (ℕ × Rule)
 placed n [] = []
@@ -41,3 +42,9 @@ pub record First-breach (set : List (List Rule)) (l : List Duty) (b : Breach) : 
 -- the layers
 abbrev pub shift-rules : List Rule
 shift-rules = shift-elapsed ∷ shift-driving ∷ []
+
+abbrev pub break-rules : ℕ → ℕ → Pause → List Rule
+break-rules limit len kind = driving-break limit len kind ∷ []
+
+abbrev pub cycle-rules : ℕ → ℕ → ℕ → List Rule
+cycle-rules days limit restart = duty-cycle days limit restart ∷ []

@@ -1,4 +1,5 @@
 // The rule books, and the named rule sets made of them.
+pub mod driving_break;
 pub mod pause;
 pub mod period;
 pub mod us_shift;
