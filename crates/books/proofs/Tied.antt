@@ -30,7 +30,7 @@ pub record Tied {S : Type 0} (names : S → ℕ → Duty → Option Violation) (
 breach-same : (a b : Breach) → Some a ≡ Some b → a ≡ b
 breach-same a b e = cc
 
-breach-some : (n : ℕ) (o : Option Violation) (b : Breach) → breach-at n o ≡ Some b → (v : Violation) × (o ≡ Some v) × (_≡_ {A = Breach} (record { quarter = n; rule = v .rule; layer = v .layer }) b)
+pub breach-some : (n : ℕ) (o : Option Violation) (b : Breach) → breach-at n o ≡ Some b → (v : Violation) × (o ≡ Some v) × (_≡_ {A = Breach} (record { quarter = n; rule = v .rule; layer = v .layer }) b)
 breach-some n None b e = absurd (some-none b (sym e))
 breach-some n (Some v) b e = (v, refl, breach-same _ b e)
 

@@ -40,6 +40,10 @@ abbrev pub Found : {S : Type 0} → (S → ℕ → Duty → Option Violation) �
 Found names after opened lawful l n None = (n ≡ length l) × lawful l
 Found names after opened lawful l n (Some b) = Breached names after opened lawful l n b
 
+-- the refusals of a log, in their order: too long, then a byte that is no letter
+abbrev pub Refused-log : List ℕ → Refusal → Type 0
+Refused-log bytes why = ((number why ≡ 2) × (2688 < length bytes)) ⊎ ((number why ≡ 1) × (length bytes ≤ 2688) × (Letters bytes → ⊥))
+
 abbrev pub Judged : {S : Type 0} → (S → ℕ → Duty → Option Violation) → (S → ℕ → Duty → S) → S → (List Duty → Type 0) → List ℕ → Result (ℕ × Option Breach) Refusal → Type 0
-Judged names after opened lawful bytes (Err why) = ((number why ≡ 2) × (2688 < length bytes)) ⊎ ((number why ≡ 1) × (length bytes ≤ 2688) × (Letters bytes → ⊥))
+Judged names after opened lawful bytes (Err why) = Refused-log bytes why
 Judged names after opened lawful bytes (Ok found) = (length bytes ≤ 2688) × Letters bytes × Found names after opened lawful (spelt bytes) (found .0) (found .1)
