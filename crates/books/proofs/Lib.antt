@@ -5,3 +5,8 @@ pub mod Counters
 pub mod Limits
 pub mod Shift
 pub mod Breaks
+pub mod Eights
+pub mod CycleLaws
+pub mod Daily
+pub mod Days
+pub mod Cycles

@@ -6,3 +6,4 @@ pub mod Verdicts
 pub mod Period
 pub mod UsShift
 pub mod DrivingBreak
+pub mod DutyCycle

@@ -1,5 +1,6 @@
 // The rule books, and the named rule sets made of them.
 pub mod driving_break;
+pub mod duty_cycle;
 pub mod pause;
 pub mod period;
 pub mod us_shift;
