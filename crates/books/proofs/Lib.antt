@@ -1,4 +1,5 @@
 pub mod Broken
+pub mod Sorting
 pub mod Tied
 pub mod Judging
 pub mod Counters
@@ -10,3 +11,4 @@ pub mod CycleLaws
 pub mod Daily
 pub mod Days
 pub mod Cycles
+pub mod UsSets

@@ -7,3 +7,5 @@ pub mod Period
 pub mod UsShift
 pub mod DrivingBreak
 pub mod DutyCycle
+pub mod Names
+pub mod Piles

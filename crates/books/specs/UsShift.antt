@@ -10,8 +10,12 @@ use Rattle.duty.specs.declared.Duty.the-variants.{Rest, Work, Drive}
 use Rattle.rules.specs.declared.breach.Violation.{Violation}
 use Rattle.rules.specs.Layers.{moved}
 use Rattle.books.specs.declared.period.PeriodRow.{PeriodRow}
+use Rattle.books.specs.declared.us_shift.UsShift.{UsShift}
 use Rattle.books.specs.Bounds.{Shift-bounds}
 use Rattle.books.specs.Period.{next-period}
+
+abbrev pub shift-row : UsShift → PeriodRow
+shift-row b = record { elapsed = b .elapsed; driven = b .driven; rest = b .rest }
 
 abbrev pub Shift-sound : PeriodRow → Type 0
 Shift-sound s = Shift-bounds (s .elapsed) (s .driven) (s .rest)

@@ -3,4 +3,5 @@ pub mod driving_break;
 pub mod duty_cycle;
 pub mod pause;
 pub mod period;
+pub mod sets;
 pub mod us_shift;

@@ -6,3 +6,4 @@ use Rattle.rules.specs.declared.refusal.Refusal.the-variants as why
 abbrev pub number : Refusal → ℕ
 number why.Letter = 1
 number why.Horizon = 2
+number why.Spelling = 12

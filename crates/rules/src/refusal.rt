@@ -8,6 +8,8 @@ pub enum Refusal {
     Letter,
     // More quarters than the horizon has.
     Horizon,
+    // A line that does not spell what it should.
+    Spelling,
 }
 
 impl Refusal {
@@ -17,6 +19,7 @@ impl Refusal {
         match self {
             Refusal::Letter => 1,
             Refusal::Horizon => 2,
+            Refusal::Spelling => 12,
         }
     }
 }

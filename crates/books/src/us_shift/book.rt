@@ -2,7 +2,7 @@
 ghost use mathlib.Core.Path.{_≡_};
 ghost use mathlib.Core.List.{_∷_, []};
 ghost use Rattle.books.specs.Sets.{Lawful, shift-rules};
-ghost use Rattle.books.specs.UsShift.{Shift-sound, opened-shift, shift-names, shift-after, remade-shift};
+ghost use Rattle.books.specs.UsShift.{shift-row, Shift-sound, opened-shift, shift-names, shift-after, remade-shift};
 use super::UsShift;
 use crate::period::PeriodRow;
 use crate::period::PeriodRowFigures;
@@ -20,8 +20,9 @@ const DRIVEN: u16 = 44;
 const REST: u16 = 40;
 
 impl UsShift {
+    // The state before quarter 0.
     pub fn new() -> UsShift
-        ensures { λ r. ⌜ r .elapsed ≡ 0 ⌝ ∗ ⌜ r .driven ≡ 0 ⌝ ∗ ⌜ r .rest ≡ 40 ⌝ }
+        ensures { λ r. ⌜ shift-row r ≡ opened-shift ⌝ }
     {
         UsShift {
             elapsed: 0,
@@ -38,7 +39,7 @@ pub impl RuleBook for UsShift as UsShiftRuleBook {
 
     const HIGHEST: u8 = 2;
 
-    ghost figures = { λ b. record { elapsed = b .elapsed; driven = b .driven; rest = b .rest } };
+    ghost figures = { shift-row };
 
     ghost sound = { Shift-sound };
 
