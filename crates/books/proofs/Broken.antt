@@ -1,6 +1,6 @@
 -- The first broken rule of a list: what a book names at a quarter, in the words of the sentences.
 --   First-broken xs l q o    o names the first rule of xs that quarter q breaks, or nothing where it keeps them all
-use mathlib.Core.Bool.{Bool, true, false}
+use mathlib.Core.Bool.{Bool, true, false, cond}
 use mathlib.Core.List.{List, [], _∷_, _++_, map}
 use mathlib.Core.Logic.{_⊎_, inl, inr, ⊎-elim}
 use mathlib.Core.Path.{_≡_, refl, sym, ap, subst, _∙_}
@@ -67,6 +67,11 @@ module _ (l : List Duty) (q : ℕ) where
   broken-lowest (x ∷ xs) o v s (inr h) e layer rule a low =
       let same : v ≡ named x = some-same v (named x) (sym e ∙ h .1) in
       absurd (not-lower x xs (s .0) layer rule a (subst (λ w. Lower layer (rule-number rule) (w .layer) (w .rule)) same low))
+
+  -- a test that tells whether the first rule is broken, before what is said of the others
+  pub broken-test : (x : ℕ × Rule) (xs : List (ℕ × Rule)) (b : Bool) (o : Option Violation) → (b ≡ true → Keeps (x .1) l q → ⊥) → (b ≡ false → Keeps (x .1) l q) → First-broken xs l q o → First-broken (x ∷ xs) l q (cond b (Some (named x)) o)
+  broken-test x xs true o breaks keeps others = inr (breaks refl, refl)
+  broken-test x xs false o breaks keeps others = inl (keeps refl, others)
 
   pub broken-both : (xs ys : List (ℕ × Rule)) (a b : Option Violation) → First-broken xs l q a → First-broken ys l q b → First-broken (xs ++ ys) l q (first-named a b)
   broken-both [] ys a b h k = subst (λ o. First-broken ys l q (first-named o b)) (sym h) k

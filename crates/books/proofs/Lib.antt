@@ -4,6 +4,7 @@ pub mod Tied
 pub mod Judging
 pub mod Counters
 pub mod Limits
+pub mod Periods
 pub mod Shift
 pub mod Breaks
 pub mod Eights
@@ -11,4 +12,9 @@ pub mod CycleLaws
 pub mod Daily
 pub mod Days
 pub mod Cycles
+pub mod EuDays
+pub mod TwoWeeks
+pub mod LongRest
+pub mod Piled
 pub mod UsSets
+pub mod EuSets

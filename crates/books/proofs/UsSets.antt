@@ -1,8 +1,7 @@
 -- The US sets: their books keep just the sentences of their layers.
 use mathlib.Core.List.{List, [], _∷_}
-use mathlib.Core.Logic.{_⊎_, inl, inr}
 use mathlib.Core.Path.{_≡_, refl, subst}
-use Prim.Native.Nat.{ℕ, _≤_, _<_}
+use Prim.Native.Nat.{ℕ, _≤_}
 use native.Mathlib.Omega.{arith}
 use Rattle.std.specs.declared.option.Option.{Option}
 use Rattle.std.specs.declared.result.Result.{Result}
@@ -12,8 +11,7 @@ use Rattle.rules.specs.declared.breach.Violation.{Violation}
 use Rattle.rules.specs.declared.layered.Stacked.{Stacked}
 use Rattle.rules.specs.declared.refusal.Refusal.{Refusal}
 use Rattle.rules.specs.Judged.{Judged}
-use Rattle.rules.specs.Walk.{Allowed}
-use Rattle.rules.proofs.Layers.{both-name, both-move, allowed-both}
+use Rattle.rules.proofs.Layers.{both-name, both-move}
 use Rattle.books.specs.declared.driving_break.book.BreakRow.{BreakRow}
 use Rattle.books.specs.declared.duty_cycle.book.CycleRow.{CycleRow}
 use Rattle.books.specs.declared.pause.Pause.the-variants as kind
@@ -28,9 +26,12 @@ use Rattle.books.specs.Verdicts.{Judged-by}
 use Rattle.books.proofs.Breaks.{break-tied}
 use Rattle.books.proofs.Cycles.{cycle-tied}
 use Rattle.books.proofs.Judging.{judged-by}
+use Rattle.books.proofs.Piled.{Piled, bottom, over}
 use Rattle.books.proofs.Shift.{shift-tied}
 use Rattle.books.proofs.Sorting.{ascending-sorted}
-use Rattle.books.proofs.Tied.{Tied, tied-layer, lawful-allowed}
+
+abbrev UsRow : Type 0
+UsRow = Stacked CycleRow (Stacked BreakRow PeriodRow)
 
 -- shift and break
 abbrev low-names : Stacked BreakRow PeriodRow → ℕ → Duty → Option Violation
@@ -40,43 +41,34 @@ abbrev low-after : Stacked BreakRow PeriodRow → ℕ → Duty → Stacked Break
 low-after = both-move break-names break-after shift-names shift-after 1
 
 -- and the cycle
-abbrev pub us-names : Stacked CycleRow (Stacked BreakRow PeriodRow) → ℕ → Duty → Option Violation
+abbrev pub us-names : UsRow → ℕ → Duty → Option Violation
 us-names = both-name cycle-names cycle-after low-names low-after 2
 
-abbrev pub us-after : Stacked CycleRow (Stacked BreakRow PeriodRow) → ℕ → Duty → Stacked CycleRow (Stacked BreakRow PeriodRow)
+abbrev pub us-after : UsRow → ℕ → Duty → UsRow
 us-after = both-move cycle-names cycle-after low-names low-after 2
 
-low-tied : Tied low-names low-after (record { own = opened-break 32 2 kind.OffWheel; below = opened-shift }) (shift-rules ∷ break-rules 32 2 kind.OffWheel ∷ [])
-low-tied =
-    tied-layer break-names break-after (opened-break 32 2 kind.OffWheel) (break-rules 32 2 kind.OffWheel) (break-tied 32 2 kind.OffWheel) shift-names shift-after opened-shift (shift-rules ∷ []) shift-tied (omega arith)
+abbrev Us-lawful : UsRow → List Duty → Type 0
+Us-lawful s l =
+    (Lawful (shift-rules ∷ []) l × Lawful (break-rules (s .below .own .limit) (s .below .own .length) (s .below .own .kind) ∷ []) l)
+    × Lawful (cycle-rules (s .own .days) (s .own .limit) (s .own .restart) ∷ []) l
+
+abbrev us-opened : UsRow → UsRow
+us-opened s = record {
+  own = opened-cycle (s .own .days) (s .own .limit) (s .own .restart);
+  below = record { own = opened-break (s .below .own .limit) (s .below .own .length) (s .below .own .kind); below = opened-shift };
+}
 
 module _ (days limit : ℕ) (some : 1 ≤ days) (few : days ≤ 8) where
-  pub us-tied : Tied us-names us-after (opened-us days limit) (us-rules days limit)
-  us-tied =
-      tied-layer cycle-names cycle-after (opened-cycle days limit 136) (cycle-rules days limit 136) (cycle-tied days limit 136 some few) low-names low-after (record { own = opened-break 32 2 kind.OffWheel; below = opened-shift }) (shift-rules ∷ break-rules 32 2 kind.OffWheel ∷ []) low-tied (omega arith)
-
-  -- what is lawful in each layer is allowed by the pile
-  pub us-allowed : (l : List Duty) → (Lawful (shift-rules ∷ []) l × Lawful (break-rules 32 2 kind.OffWheel ∷ []) l) × Lawful (cycle-rules days limit 136 ∷ []) l → Allowed us-names us-after (opened-us days limit) 0 l
-  us-allowed l h =
-      allowed-both cycle-names cycle-after low-names low-after 2 l (opened-us days limit) 0
-      (allowed-both break-names break-after shift-names shift-after 1 l (record { own = opened-break 32 2 kind.OffWheel; below = opened-shift }) 0
-      (lawful-allowed shift-names shift-after opened-shift (shift-rules ∷ []) shift-tied l (h .0 .0))
-      (lawful-allowed break-names break-after (opened-break 32 2 kind.OffWheel) (break-rules 32 2 kind.OffWheel ∷ []) (break-tied 32 2 kind.OffWheel) l (h .0 .1)))
-      (lawful-allowed cycle-names cycle-after (opened-cycle days limit 136) (cycle-rules days limit 136 ∷ []) (cycle-tied days limit 136 some few) l (h .1))
-
-  abbrev Us-lawful : Stacked CycleRow (Stacked BreakRow PeriodRow) → List Duty → Type 0
-  Us-lawful s l =
-      (Lawful (shift-rules ∷ []) l × Lawful (break-rules (s .below .own .limit) (s .below .own .length) (s .below .own .kind) ∷ []) l)
-      × Lawful (cycle-rules (s .own .days) (s .own .limit) (s .own .restart) ∷ []) l
-
-  abbrev us-opened : Stacked CycleRow (Stacked BreakRow PeriodRow) → Stacked CycleRow (Stacked BreakRow PeriodRow)
-  us-opened s = record {
-    own = opened-cycle (s .own .days) (s .own .limit) (s .own .restart);
-    below = record { own = opened-break (s .below .own .limit) (s .below .own .length) (s .below .own .kind); below = opened-shift };
-  }
+  pub us-piled : Piled us-names us-after (opened-us days limit) (us-rules days limit) (Us-lawful (opened-us days limit))
+  us-piled =
+      over cycle-names cycle-after (opened-cycle days limit 136) (cycle-rules days limit 136) (cycle-tied days limit 136 some few) low-names low-after _ _ _
+      (over break-names break-after (opened-break 32 2 kind.OffWheel) (break-rules 32 2 kind.OffWheel) (break-tied 32 2 kind.OffWheel) shift-names shift-after _ _ _
+      (bottom shift-names shift-after opened-shift shift-rules shift-tied)
+      (omega arith))
+      (omega arith)
 
   -- what the judge finds by the pile's own functions is what the sentences say
-  pub us-judged : (s : Stacked CycleRow (Stacked BreakRow PeriodRow)) → s ≡ opened-us days limit → (bytes : List ℕ) (r : Result (ℕ × Option Breach) Refusal) → Judged us-names us-after (us-opened s) (Us-lawful s) bytes r → Judged-by (us-rules days limit) bytes r
+  pub us-judged : (s : UsRow) → s ≡ opened-us days limit → (bytes : List ℕ) (r : Result (ℕ × Option Breach) Refusal) → Judged us-names us-after (us-opened s) (Us-lawful s) bytes r → Judged-by (us-rules days limit) bytes r
   us-judged s e bytes r h =
-      judged-by us-names us-after (opened-us days limit) (us-rules days limit) us-tied (ascending-sorted (placed 1 (us-rules days limit)) refl) (Us-lawful (opened-us days limit)) us-allowed bytes r
+      judged-by us-names us-after (opened-us days limit) (us-rules days limit) (us-piled .tied) (ascending-sorted (placed 1 (us-rules days limit)) refl) (Us-lawful (opened-us days limit)) (us-piled .allowed) bytes r
       (subst (λ t. Judged us-names us-after (us-opened t) (Us-lawful t) bytes r) e h)

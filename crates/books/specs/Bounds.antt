@@ -30,3 +30,12 @@ most-on days restart rest i = cond (ltb i days && ltb rest restart) 96 0
 
 abbrev pub Cycle-counts : ℕ → ℕ → List ℕ → ℕ → Type 0
 Cycle-counts days restart duty rest = (i : ℕ) → getD duty i 0 ≤ most-on days restart rest i
+
+abbrev pub Day-bounds : ℕ → ℕ → ℕ → Type 0
+Day-bounds elapsed driven rest = (elapsed ≤ 52) × (driven ≤ 36) × (rest ≤ 44) × (rest ≡ 44 → elapsed ≡ 0) × (rest ≡ 44 → driven ≡ 0)
+
+abbrev pub Weeks-bounds : ℕ → ℕ → Type 0
+Weeks-bounds this last = (this ≤ 224) × (last ≤ 224)
+
+abbrev pub Weekly-rest-bounds : ℕ → ℕ → Type 0
+Weekly-rest-bounds elapsed rest = (elapsed ≤ 576) × (rest ≤ 180) × (rest ≡ 180 → elapsed ≡ 0)

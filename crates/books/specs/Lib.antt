@@ -7,5 +7,8 @@ pub mod Period
 pub mod UsShift
 pub mod DrivingBreak
 pub mod DutyCycle
+pub mod EuDay
+pub mod EuWeeks
+pub mod WeeklyRest
 pub mod Names
 pub mod Piles

@@ -13,7 +13,7 @@ use lib.ListN.{length}
 use Rattle.duty.specs.declared.Duty.{Duty}
 use Rattle.rules.specs.declared.breach.Breach.{Breach}
 use Rattle.books.specs.declared.pause.Pause.{Pause}
-use Rattle.books.specs.Sentences.{Rule, rule-number, Keeps, shift-elapsed, shift-driving, driving-break, duty-cycle}
+use Rattle.books.specs.Sentences.{Rule, rule-number, Keeps, shift-elapsed, shift-driving, driving-break, duty-cycle, day-elapsed, day-driving, week-driving, fortnight-driving, weekly-rest}
 
 abbrev pub placed : ℕ → List (List Rule) → List (ℕ × Rule)
 placed n [] = []
@@ -48,3 +48,12 @@ break-rules limit len kind = driving-break limit len kind ∷ []
 
 abbrev pub cycle-rules : ℕ → ℕ → ℕ → List Rule
 cycle-rules days limit restart = duty-cycle days limit restart ∷ []
+
+abbrev pub day-rules : List Rule
+day-rules = day-elapsed ∷ day-driving ∷ []
+
+abbrev pub weeks-rules : List Rule
+weeks-rules = week-driving ∷ fortnight-driving ∷ []
+
+abbrev pub weekly-rest-rules : List Rule
+weekly-rest-rules = weekly-rest ∷ []

@@ -3,16 +3,24 @@ ghost use mathlib.Core.Path.{_≡_};
 ghost use Rattle.std.specs.Options.{Cases as BySome};
 ghost use Rattle.books.specs.Names.{set-name, sentences};
 ghost use Rattle.books.specs.Verdicts.{Judged-by};
-ghost use Rattle.books.specs.Piles.{us-row, given-us, opened-us};
+ghost use Rattle.books.specs.Piles.{us-row, given-us, opened-us, eu-row, opened-eu};
 use crate::driving_break::Break;
 use crate::driving_break::BreakState;
 use crate::driving_break::book::BreakRuleBook;
 use crate::duty_cycle::Cycle;
 use crate::duty_cycle::CycleState;
 use crate::duty_cycle::book::CycleRuleBook;
+use crate::eu_day::EuDay;
+use crate::eu_day::book::EuDayRuleBook;
 use crate::pause::Pause;
 use crate::us_shift::UsShift;
 use crate::us_shift::book::UsShiftRuleBook;
+use crate::weekly_rest::WeeklyRest;
+use crate::weekly_rest::WeeklyRestState;
+use crate::weekly_rest::book::WeeklyRestStateRuleBook;
+use crate::weeks::Weeks;
+use crate::weeks::WeeksState;
+use crate::weeks::book::WeeksStateRuleBook;
 use rules::breach::Breach;
 use rules::judge::judge;
 use rules::layered::Layered;
@@ -23,6 +31,7 @@ use rules::refusal::Refusal;
 pub enum RuleSet {
     Us7,
     Us8,
+    Eu,
 }
 
 impl RuleSet {
@@ -32,6 +41,7 @@ impl RuleSet {
         match self {
             RuleSet::Us7 => "us7",
             RuleSet::Us8 => "us8",
+            RuleSet::Eu => "eu",
         }
     }
 
@@ -43,6 +53,8 @@ impl RuleSet {
             Some(RuleSet::Us7)
         } else if name == b"us8" {
             Some(RuleSet::Us8)
+        } else if name == b"eu" {
+            Some(RuleSet::Eu)
         } else {
             None
         }
@@ -79,6 +91,25 @@ pub fn us8() -> UsBook
     us_book(8, 280)
 }
 
+// The book of the EU set.
+pub type EuBook = WeeklyRest<Weeks<Break<EuDay>>>;
+
+// EU day; a break after 18 quarters of driving, of 3 of rest; the weeks; the weekly rest.
+pub fn eu() -> EuBook
+    ensures { λ r. ⌜ eu-row r ≡ opened-eu ⌝ }
+{
+    Layered {
+        own: WeeklyRestState::new(),
+        below: Layered {
+            own: WeeksState::new(),
+            below: Layered {
+                own: BreakState::new(18, 3, Pause::Rest),
+                below: EuDay::new(),
+            },
+        },
+    }
+}
+
 // The lawful length of a log under a rule set, and the first breach if there is one.
 pub fn judge_by(set: RuleSet, log: &[u8]) -> Result<(usize, Option<Breach>), Refusal>
     ensures { λ r. ⌜ Judged-by (sentences set) (now (log .entry)) r ⌝ }
@@ -86,5 +117,6 @@ pub fn judge_by(set: RuleSet, log: &[u8]) -> Result<(usize, Option<Breach>), Ref
     match set {
         RuleSet::Us7 => judge(&us7(), log),
         RuleSet::Us8 => judge(&us8(), log),
+        RuleSet::Eu => judge(&eu(), log),
     }
 }

@@ -13,6 +13,9 @@ pub const HORIZON: usize = 2688;
 // The quarters of a day.
 pub const DAY: usize = 96;
 
+// The quarters of a week.
+pub const WEEK: usize = 672;
+
 // The duty status of one quarter.
 #[derive(Clone, Copy, PartialEq, Eq, Debug)]
 pub enum Duty {
@@ -80,4 +83,11 @@ pub fn ends_day(quarter: usize) -> bool
     ensures { λ r. ⌜ r ≡ eqb (quarter % 96) 95 ⌝ }
 {
     quarter % DAY == DAY - 1
+}
+
+// Whether the quarter is the last of its week.
+pub fn ends_week(quarter: usize) -> bool
+    ensures { λ r. ⌜ r ≡ eqb (quarter % 672) 671 ⌝ }
+{
+    quarter % WEEK == WEEK - 1
 }
