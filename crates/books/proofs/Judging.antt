@@ -2,7 +2,7 @@
 use mathlib.Core.Bool.{true}
 use mathlib.Core.List.{List}
 use mathlib.Core.Path.{_≡_, sym, ap, _∙_}
-use Prim.Native.Nat.{ℕ}
+use Prim.Native.Nat.{ℕ, _<_}
 use lib.ListN.{length, take}
 use Rattle.std.specs.declared.option.Option.{Option}
 use Rattle.std.specs.declared.option.Option.the-variants.{Some, None}
@@ -38,3 +38,7 @@ module _ {S : Type 0} (names : S → ℕ → Duty → Option Violation) (after :
   -- a log that the machine allows is lawful, and one that it stops at n has its first breach there
   pub computed-lawful : (l : List Duty) → allows names after opened 0 l ≡ true → Lawful set l
   computed-lawful l e = allowed-lawful names after opened set tied l (allows-allowed names after l opened 0 e)
+
+  pub computed-breach : (l : List Duty) (b : Breach) → b .quarter < length l → allows names after opened 0 (take (b .quarter) l) ≡ true → breach-at (b .quarter) (names (led after opened 0 (take (b .quarter) l)) (b .quarter) (at l (b .quarter))) ≡ Some b → First-breach set l b
+  computed-breach l b within e named =
+      breached-first names after opened set tied sorted l (b .quarter) b within (allows-allowed names after (take (b .quarter) l) opened 0 e) named

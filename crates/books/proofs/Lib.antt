@@ -18,3 +18,4 @@ pub mod LongRest
 pub mod Piled
 pub mod UsSets
 pub mod EuSets
+pub mod Cases

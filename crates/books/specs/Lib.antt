@@ -12,3 +12,4 @@ pub mod EuWeeks
 pub mod WeeklyRest
 pub mod Names
 pub mod Piles
+pub mod Worked

@@ -8,3 +8,4 @@ pub mod sets;
 pub mod us_shift;
 pub mod weekly_rest;
 pub mod weeks;
+pub mod worked;
