@@ -1,12 +1,11 @@
 -- The laws of the cycle: a state that is no worse stays so, and what is made from a row is a state.
-use mathlib.Core.Bool.{Bool, true, false, cond, _&&_}
+use mathlib.Core.Bool.{Bool, true, false, cond}
 use mathlib.Core.List.{List}
-use mathlib.Core.Path.{_≡_, refl, sym, ap, subst, subst₂, _∙_}
-use Prim.Native.Nat.{ℕ, _+_, _≤_, _<_, min}
+use mathlib.Core.Path.{_≡_, refl, sym, ap, subst, subst₂}
+use Prim.Native.Nat.{ℕ, _≤_}
 use native.Mathlib.Omega.{arith}
-use lib.Dec.{eqb, leb}
-use Rattle.std.proofs.shelf.Tests.{cases-bool, cond-true, cond-false, cond-both, and-parts, and-from, leb-true, leb-false, le-leb, lt-leb, eqb-true, eqb-false, ne-eqb}
-use Rattle.std.specs.declared.option.Option.{Option}
+use lib.Dec.{eqb}
+use Rattle.std.proofs.shelf.Tests.{cond-true, cond-false, cond-both, and-parts, and-from, leb-true, leb-false, le-leb, lt-leb, eqb-false, ne-eqb}
 use Rattle.std.specs.declared.option.Option.the-variants.{Some, None}
 use Rattle.duty.specs.declared.Duty.{Duty}
 use Rattle.duty.specs.declared.Duty.the-variants.{Rest, Work, Drive}
@@ -16,8 +15,8 @@ use Rattle.rules.specs.declared.breach.Violation.{Violation}
 use Rattle.rules.specs.Layers.{moved}
 use Rattle.rules.proofs.Layers.{some-none, moved-either}
 use Rattle.books.specs.declared.duty_cycle.book.CycleRow.{CycleRow}
-use Rattle.books.specs.Bounds.{Cycle-counts, most-on}
-use Rattle.books.specs.DutyCycle.{Cycle-sound, No-more, No-worse-cycle, none-on, given-cycle, total-on, cycle-names, next-counts, next-cycle, cycle-after, fits-cycle, remade-cycle}
+use Rattle.books.specs.DayCounts.{No-more, none-on, total-on, next-counts}
+use Rattle.books.specs.DutyCycle.{Cycle-sound, No-worse-cycle, given-cycle, cycle-names, next-cycle, cycle-after, fits-cycle, remade-cycle}
 use Rattle.books.proofs.Eights.{none-least, total-more, next-more, counts-within, decides-within}
 
 pub run-le : (full run : ℕ) (unbroken : Bool) → next-run full run unbroken ≤ full

@@ -3,7 +3,7 @@ use mathlib.Core.Bool.{Bool, true, false, cond}
 use mathlib.Core.List.{List, [], _∷_}
 use mathlib.Core.Logic.{inl, inr}
 use mathlib.Core.Path.{_≡_, refl, sym, ap, _∙_}
-use Prim.Native.Nat.{ℕ, suc, _+_, _-_, _%_, _≤_, _<_, min, max}
+use Prim.Native.Nat.{ℕ, suc, _+_, _-_, _%_, _≤_, _<_, max}
 use native.Mathlib.Omega.{arith}
 use lib.Dec.{eqb, leb}
 use Rattle.std.proofs.shelf.Tests.{cond-true, cond-false, leb-true, leb-false, eqb-true, eqb-false}
@@ -16,7 +16,8 @@ use Rattle.duty.proofs.Counts.{count-more-one}
 use Rattle.duty.proofs.Runs.{run-at, since-at, since-le, latest-since}
 use Rattle.rules.specs.Layers.{moved}
 use Rattle.books.specs.declared.duty_cycle.book.CycleRow.{CycleRow}
-use Rattle.books.specs.DutyCycle.{opened-cycle, none-on, total-on, cycle-names, next-counts, next-cycle, cycle-after}
+use Rattle.books.specs.DayCounts.{total-on, next-counts}
+use Rattle.books.specs.DutyCycle.{opened-cycle, cycle-names, next-cycle, cycle-after}
 use Rattle.books.specs.Sentences.{Keeps, duty-cycle, days-from}
 use Rattle.books.specs.Sets.{placed, cycle-rules}
 use Rattle.books.proofs.Broken.{First-broken}

@@ -1,12 +1,11 @@
 -- Eight counts, one to a day, as the differences of sums over days; how they go on with the sums.
 --   counts-by days r         the counts where r i is the sum of the day and the i days before it, of the days that are counted
-use mathlib.Core.Bool.{cond}
 use mathlib.Core.List.{List, [], _∷_}
 use mathlib.Core.Path.{_≡_, sym, ap, _∙_}
 use Prim.Native.Nat.{ℕ, zero, suc, _+_, _-_, _≤_, min}
 use native.Mathlib.Omega.{arith}
 use Rattle.std.proofs.shelf.Ways.{tells}
-use Rattle.books.specs.DutyCycle.{none-on, total-on, aged, turned, gone-on}
+use Rattle.books.specs.DayCounts.{none-on, total-on, aged, turned, gone-on}
 
 abbrev pub counts-by : ℕ → (ℕ → ℕ) → List ℕ
 counts-by days r =

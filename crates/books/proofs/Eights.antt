@@ -1,17 +1,17 @@
 -- Eight counts, one to a day: their order and their bounds, before and after a quarter.
-use mathlib.Core.Bool.{Bool, true, false, cond, _&&_}
+use mathlib.Core.Bool.{Bool, true, false, cond}
 use mathlib.Core.List.{List, [], _∷_}
 use mathlib.Core.Logic.{inl, inr}
 use mathlib.Core.Path.{_≡_, refl, sym, subst}
 use Prim.Native.Nat.{ℕ, zero, suc, _+_, _%_, _≤_, _<_, min}
 use native.Mathlib.Omega.{arith}
-use lib.Dec.{eqb, leb, ltb}
+use lib.Dec.{eqb, ltb}
 use lib.ListN.{getD}
 use Rattle.std.specs.Orderings.{Decides}
 use Rattle.std.proofs.shelf.Tests.{cases-bool, and-parts, and-from, leb-true, le-leb, eqb-false}
 use Rattle.std.proofs.shelf.Ways.{tells}
 use Rattle.books.specs.Bounds.{Cycle-counts, most-on}
-use Rattle.books.specs.DutyCycle.{No-more, none-on, total-on, aged, turned, gone-on, next-counts, all-within}
+use Rattle.books.specs.DayCounts.{No-more, none-on, total-on, aged, turned, gone-on, next-counts, all-within}
 
 -- eight numbers, each at most what f says of its place
 pub each-of-eight : (f : ℕ → ℕ) (a b c d e g h j : ℕ) → a ≤ f 0 → b ≤ f 1 → c ≤ f 2 → d ≤ f 3 → e ≤ f 4 → g ≤ f 5 → h ≤ f 6 → j ≤ f 7 → (i : ℕ) → getD (a ∷ b ∷ c ∷ d ∷ e ∷ g ∷ h ∷ j ∷ []) i 0 ≤ f i

@@ -6,6 +6,7 @@ pub mod Verdicts
 pub mod Period
 pub mod UsShift
 pub mod DrivingBreak
+pub mod DayCounts
 pub mod DutyCycle
 pub mod EuDay
 pub mod EuWeeks

@@ -20,3 +20,4 @@ pub struct CycleState {
 pub type Cycle<B> = Layered<CycleState, B>;
 
 pub mod book;
+mod counts;

@@ -3,7 +3,7 @@ use mathlib.Core.Path.{refl}
 use native.Mathlib.Omega.{arith}
 use Rattle.std.proofs.shelf.Lists.{getD-past}
 use Rattle.std.proofs.shelf.Tests.{cases-lt}
-use Rattle.books.proofs.duty_cycle.book.no_more.Needs as need
+use Rattle.books.proofs.duty_cycle.counts.no_more.Needs as need
 
 pub returns : need.returns
 returns c = (

@@ -8,7 +8,7 @@ use lib.ListN.{getD}
 use Rattle.std.proofs.shelf.Lists.{getD-past}
 use Rattle.std.proofs.shelf.Tests.{cases-lt}
 use Rattle.books.proofs.Eights.{decides-within, not-within}
-use Rattle.books.proofs.duty_cycle.book.counts_fit.Needs as need
+use Rattle.books.proofs.duty_cycle.counts.counts_fit.Needs as need
 
 pub returns : need.returns
 returns c =
