@@ -24,6 +24,12 @@ fn rule_text(set: RuleSet, rule: u8) -> &'static str {
             "driving ends within 14 hours (56 quarters) after a rest of at least 10 hours (40 quarters)",
         (_, 2) =>
             "at most 11 hours (44 quarters) of driving between rests of at least 10 hours (40 quarters)",
+        (_, 3) =>
+            "the work of a day ends within 13 hours (52 quarters) after a rest of at least 11 hours (44 quarters)",
+        (_, 4) =>
+            "at most 9 hours (36 quarters) of driving between rests of at least 11 hours (44 quarters)",
+        (RuleSet::Eu, 5) =>
+            "at most 4 hours 30 (18 quarters) of driving without a break of 45 minutes (3 quarters) of rest",
         (_, 5) =>
             "at most 8 hours (32 quarters) of driving without a pause of half an hour (2 quarters) off the wheel",
         (RuleSet::Us7, 6) => {
@@ -34,7 +40,8 @@ fn rule_text(set: RuleSet, rule: u8) -> &'static str {
         }
         (_, 7) => "at most 56 hours (224 quarters) of driving in a week",
         (_, 8) => "at most 90 hours (360 quarters) of driving in a week and the week before it",
-        (_, 9) => "a rest of 45 hours (180 quarters) begins within six days (576 quarters) after the latest one",
+        (_, 9) =>
+            "a rest of 45 hours (180 quarters) begins within six days (576 quarters) after the latest one",
         _ => "the rule has no text",
     }
 }
