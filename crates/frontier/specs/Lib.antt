@@ -1,0 +1,5 @@
+pub mod Lists
+pub mod Cover
+pub mod Offer
+pub mod Number
+pub mod Places
