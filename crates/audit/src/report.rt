@@ -57,6 +57,8 @@ pub fn refused(rt: &LibcRuntime, why: Refusal) -> io::Result<()> {
             "The log is longer than four weeks (2688 quarters), or the input than 65536 bytes.",
         ),
         Refusal::Spelling => rt.println("The first line names no rule set: write us7, us8 or eu."),
+        // The audit gives no other refusal.
+        _ => rt.println("The log cannot be read."),
     }
 }
 

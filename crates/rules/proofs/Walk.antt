@@ -28,3 +28,18 @@ module _ {S V : Type 0} (names : S → ℕ → Duty → Option V) (after : S →
   allowed-last [] s q x h = ap (λ n. names s n x) (omega arith) ∙ h .0
   allowed-last (y ∷ l) s q x h =
       ap (λ n. names (led after (after s q y) (q + 1) l) n x) (omega arith) ∙ allowed-last l (after s q y) (q + 1) x (h .1)
+
+  pub led-append : (l r : List Duty) (s : S) (q : ℕ) → led after s q (l ++ r) ≡ led after (led after s q l) (q + length l) r
+  led-append [] r s q = ap (λ n. led after s n r) (omega arith)
+  led-append (y ∷ l) r s q =
+      led-append l r (after s q y) (q + 1) ∙ ap (λ n. led after (led after (after s q y) (q + 1) l) n r) (omega arith)
+
+  pub allowed-append : (l r : List Duty) (s : S) (q : ℕ) → Allowed names after s q l → Allowed names after (led after s q l) (q + length l) r → Allowed names after s q (l ++ r)
+  allowed-append [] r s q h k = subst (λ n. Allowed names after s n r) (omega arith) k
+  allowed-append (y ∷ l) r s q h k =
+      (h .0, allowed-append l r (after s q y) (q + 1) (h .1) (subst (λ n. Allowed names after (led after (after s q y) (q + 1) l) n r) (omega arith) k))
+
+  pub allowed-rest : (l r : List Duty) (s : S) (q : ℕ) → Allowed names after s q (l ++ r) → Allowed names after (led after s q l) (q + length l) r
+  allowed-rest [] r s q h = subst (λ n. Allowed names after s n r) (omega arith) h
+  allowed-rest (y ∷ l) r s q h =
+      subst (λ n. Allowed names after (led after (after s q y) (q + 1) l) n r) (omega arith) (allowed-rest l r (after s q y) (q + 1) (h .1))

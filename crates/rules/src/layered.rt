@@ -91,7 +91,7 @@ pub impl<L: RuleBook, B: RuleBook> RuleBook for Layered<L, B> as LayeredRuleBook
     }
 
     fn dominates(&self, other: &Self) -> bool {
-        self.own.dominates(&other.own) && self.below.dominates(&other.below)
+        self.below.dominates(&other.below) && self.own.dominates(&other.own)
     }
 
     fn row(&self) -> Self::Row {

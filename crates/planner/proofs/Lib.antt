@@ -1,0 +1,17 @@
+pub mod Paths
+pub mod Backward
+pub mod Layers
+pub mod Going
+pub mod Turns
+pub mod Offers
+pub mod Expansion
+pub mod Notes
+pub mod Finding
+pub mod Carrying
+pub mod Touring
+pub mod Spans
+pub mod Concluding
+pub mod Answered
+pub mod Promised
+pub mod Standings
+pub mod PlanStandings

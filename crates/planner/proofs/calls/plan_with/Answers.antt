@@ -1,0 +1,1 @@
+use Rattle.planner.proofs.calls.plan_with.Needs as need

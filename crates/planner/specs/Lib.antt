@@ -1,0 +1,11 @@
+pub mod Trail
+pub mod Candidates
+pub mod Outcome
+pub mod History
+pub mod Plans
+pub mod Promise
+pub mod Standing
+pub mod Ranges
+pub mod Recorded
+pub mod Toured
+pub mod Finding

@@ -1,0 +1,14 @@
+pub mod Tallies
+pub mod Stretches
+pub mod Parts
+pub mod Starts
+pub mod Leads
+pub mod Append
+pub mod Split
+pub mod Covering
+pub mod Alive
+pub mod Monotone
+pub mod Smallest
+pub mod Members
+pub mod Right
+pub mod Search

@@ -1,0 +1,4 @@
+pub mod Serving
+pub mod Labels
+pub mod Moves
+pub mod Plain
