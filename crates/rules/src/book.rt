@@ -33,6 +33,11 @@ pub trait RuleBook: Copy + Drop {
 
     const HIGHEST: u8;
 
+    // The same two, for clauses.
+    ghost lowest: { ℕ };
+
+    ghost highest: { ℕ };
+
     // The state as plain figures, and which figures a state can have.
     ghost figures: { Self → Self·Row };
 
@@ -75,6 +80,16 @@ pub trait RuleBook: Copy + Drop {
     law fixed: { (s : Self·Row) (q : ℕ) (x : Duty) (l : List Duty) → (lawful s l → lawful (after s q x) l) × (lawful (after s q x) l → lawful s l) };
 
     law renewed: { (s : Self·Row) (l : List Duty) → (lawful s l → lawful (opened s) l) × (lawful (opened s) l → lawful s l) };
+
+    // What a book of one layer names is a rule of its own.
+    law owns: { (s : Self·Row) (q : ℕ) (x : Duty) (v : Violation) → layers ≡ 1 → names s q x ≡ Some v → (lowest ≤ v .rule) × (v .rule ≤ highest) };
+
+    law based: { 1 ≤ layers };
+
+    // The lowest and the highest number of its own rules, by the constants.
+    fn owned() -> (u8, u8)
+        ensures lowest { λ r. ⌜ r .0 ≡ lowest ⌝ }
+        ensures highest { λ r. ⌜ r .1 ≡ highest ⌝ };
 
     // The number of layers, held at 255.
     fn depth() -> u8

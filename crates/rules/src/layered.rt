@@ -49,6 +49,10 @@ pub impl<L: RuleBook, B: RuleBook> RuleBook for Layered<L, B> as LayeredRuleBook
 
     const HIGHEST: u8 = L::HIGHEST;
 
+    ghost lowest = { L·RuleBook .lowest };
+
+    ghost highest = { L·RuleBook .highest };
+
     ghost figures = { λ b. record { own = L·RuleBook .figures (b .own); below = B·RuleBook .figures (b .below) } };
 
     ghost sound = { λ s. L·RuleBook .sound (s .own) × B·RuleBook .sound (s .below) };
@@ -64,6 +68,10 @@ pub impl<L: RuleBook, B: RuleBook> RuleBook for Layered<L, B> as LayeredRuleBook
     ghost lawful = { λ s l. B·RuleBook .lawful (s .below) l × L·RuleBook .lawful (s .own) l };
 
     ghost layers = { min 255 (B·RuleBook .layers + L·RuleBook .layers) };
+
+    fn owned() -> (u8, u8) {
+        L::owned()
+    }
 
     fn depth() -> u8 {
         B::depth().saturating_add(L::depth())

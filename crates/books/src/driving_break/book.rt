@@ -90,6 +90,10 @@ pub impl RuleBook for BreakState as BreakRuleBook {
 
     const HIGHEST: u8 = 5;
 
+    ghost lowest = { 5 };
+
+    ghost highest = { 5 };
+
     ghost figures = { break-row };
 
     ghost sound = { Break-sound };
@@ -105,6 +109,10 @@ pub impl RuleBook for BreakState as BreakRuleBook {
     ghost lawful = { λ s. Lawful (break-rules (s .limit) (s .length) (s .kind) ∷ []) };
 
     ghost layers = { 1 };
+
+    fn owned() -> (u8, u8) {
+        (Self::LOWEST, Self::HIGHEST)
+    }
 
     fn depth() -> u8 {
         1

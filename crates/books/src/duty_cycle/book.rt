@@ -113,6 +113,10 @@ pub impl RuleBook for CycleState as CycleRuleBook {
 
     const HIGHEST: u8 = 6;
 
+    ghost lowest = { 6 };
+
+    ghost highest = { 6 };
+
     ghost figures = { cycle-row };
 
     ghost sound = { Cycle-sound };
@@ -128,6 +132,10 @@ pub impl RuleBook for CycleState as CycleRuleBook {
     ghost lawful = { λ s. Lawful (cycle-rules (s .days) (s .limit) (s .restart) ∷ []) };
 
     ghost layers = { 1 };
+
+    fn owned() -> (u8, u8) {
+        (Self::LOWEST, Self::HIGHEST)
+    }
 
     fn depth() -> u8 {
         1

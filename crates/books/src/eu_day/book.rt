@@ -38,6 +38,10 @@ pub impl RuleBook for EuDay as EuDayRuleBook {
 
     const HIGHEST: u8 = 4;
 
+    ghost lowest = { 3 };
+
+    ghost highest = { 4 };
+
     ghost figures = { day-row };
 
     ghost sound = { Day-sound };
@@ -53,6 +57,10 @@ pub impl RuleBook for EuDay as EuDayRuleBook {
     ghost lawful = { λ _. Lawful (day-rules ∷ []) };
 
     ghost layers = { 1 };
+
+    fn owned() -> (u8, u8) {
+        (Self::LOWEST, Self::HIGHEST)
+    }
 
     fn depth() -> u8 {
         1

@@ -39,6 +39,10 @@ pub impl RuleBook for UsShift as UsShiftRuleBook {
 
     const HIGHEST: u8 = 2;
 
+    ghost lowest = { 1 };
+
+    ghost highest = { 2 };
+
     ghost figures = { shift-row };
 
     ghost sound = { Shift-sound };
@@ -54,6 +58,10 @@ pub impl RuleBook for UsShift as UsShiftRuleBook {
     ghost lawful = { λ _. Lawful (shift-rules ∷ []) };
 
     ghost layers = { 1 };
+
+    fn owned() -> (u8, u8) {
+        (Self::LOWEST, Self::HIGHEST)
+    }
 
     fn depth() -> u8 {
         1

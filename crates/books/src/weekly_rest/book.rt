@@ -30,6 +30,10 @@ pub impl RuleBook for WeeklyRestState as WeeklyRestStateRuleBook {
 
     const HIGHEST: u8 = 9;
 
+    ghost lowest = { 9 };
+
+    ghost highest = { 9 };
+
     ghost figures = { weekly-rest-row };
 
     ghost sound = { Weekly-rest-sound };
@@ -45,6 +49,10 @@ pub impl RuleBook for WeeklyRestState as WeeklyRestStateRuleBook {
     ghost lawful = { λ _. Lawful (weekly-rest-rules ∷ []) };
 
     ghost layers = { 1 };
+
+    fn owned() -> (u8, u8) {
+        (Self::LOWEST, Self::HIGHEST)
+    }
 
     fn depth() -> u8 {
         1

@@ -32,6 +32,10 @@ pub impl RuleBook for WeeksState as WeeksStateRuleBook {
 
     const HIGHEST: u8 = 8;
 
+    ghost lowest = { 7 };
+
+    ghost highest = { 8 };
+
     ghost figures = { weeks-row };
 
     ghost sound = { Weeks-sound };
@@ -47,6 +51,10 @@ pub impl RuleBook for WeeksState as WeeksStateRuleBook {
     ghost lawful = { λ _. Lawful (weeks-rules ∷ []) };
 
     ghost layers = { 1 };
+
+    fn owned() -> (u8, u8) {
+        (Self::LOWEST, Self::HIGHEST)
+    }
 
     fn depth() -> u8 {
         1

@@ -1,3 +1,4 @@
+use native.Mathlib.Omega.{arith}
 use mathlib.Core.Path.{sym, subst, subst₂}
 use Rattle.rules.proofs.layered.LayeredRuleBook.the-impl.Needs as need
 use Rattle.rules.specs.Layers.{first-named}
@@ -31,3 +32,9 @@ fixed-law g s q x l =
     s
     ((λ h. (low .0 (h .0), up .0 (h .1))), (λ h. (low .1 (h .0), up .1 (h .1))))
     ((λ h. h), (λ h. h))
+
+pub owns-law : need.owns-law
+owns-law g s q x v one named = absurd (omega (arith, g .L·RuleBook·met .based, g .B·RuleBook·met .based))
+
+pub based-law : need.based-law
+based-law g = omega (arith, g .L·RuleBook·met .based, g .B·RuleBook·met .based)
