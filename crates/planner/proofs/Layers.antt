@@ -4,8 +4,6 @@
 --   layer-from           what is in a layer comes by a move from one of the labels, and is alive
 --   layer-has            what a label moves to is in the layer if it is alive
 --   chosen-from          so does what stands at a place of a list chosen from a layer
---   layer-length         at most two for each label
---   layer-more           the layer of one label more
 use mathlib.Core.Bool.{Bool, true, false, cond}
 use mathlib.Core.List.{List, [], _∷_, _++_}
 use mathlib.Core.Logic.{_⊎_, inl, inr, ⊎-elim}
@@ -107,12 +105,6 @@ module _ {R : Type 0} (names : R → ℕ → Duty → Option Violation) (after :
         | inr s ↦ in-right b _ _ (live-has stops (q + 1) _ b (subst (λ y. Moves j a y b) s e) h)
       ]
 
-  pub candidates-length : (j : ℕ) (a : Label R) → length (candidates names after stops q j a) ≤ 2
-  candidates-length j a =
-      let first = live stops (q + 1) (move names after stops q (entry j Rest) a Rest) in
-      let other = live stops (q + 1) (move names after stops q (entry j (second a)) a (second a)) in
-      omega (arith, length-append first other, live-length stops (q + 1) (move names after stops q (entry j Rest) a Rest), live-length stops (q + 1) (move names after stops q (entry j (second a)) a (second a)))
-
   pub layer-from : (j : ℕ) (F : List (Label R)) (g : Label R) → In g (layer names after stops q j F) → (i : ℕ) × (x : Duty) × (i < length F) × ((d : Label R) → move names after stops q (entry (j + i) x) (getD F i d) x ≡ Some g) × Alive stops (q + 1) g
   layer-from j [] g h = absurd h
   layer-from j (a ∷ F) g h =
@@ -143,19 +135,3 @@ module _ {R : Type 0} (names : R → ℕ → Duty → Option Violation) (after :
   layer-has j (a ∷ F) (suc i) d b x lt e h =
       let z : j + suc i ≡ j + 1 + i = omega arith in
       in-right b (candidates names after stops q j a) _ (layer-has (j + 1) F i d b x (omega arith) (subst (λ n. Moves n (getD F i d) x b) z e) h)
-
-  pub layer-length : (j : ℕ) (F : List (Label R)) → length (layer names after stops q j F) ≤ 2 * length F
-  layer-length j [] = omega arith
-  layer-length j (a ∷ F) =
-      omega (arith, length-append (candidates names after stops q j a) (layer names after stops q (j + 1) F), candidates-length j a, layer-length (j + 1) F)
-
-  pub layer-more : (j : ℕ) (F : List (Label R)) (a : Label R) → layer names after stops q j (F ++ a ∷ []) ≡ layer names after stops q j F ++ candidates names after stops q (j + length F) a
-  layer-more j [] a =
-      let z : j ≡ j + 0 = omega arith in
-      append-nil (candidates names after stops q j a) ∙ ap (λ n. candidates names after stops q n a) z
-  layer-more j (f ∷ F) a =
-      let z : j + 1 + length F ≡ j + suc (length F) = omega arith in
-      let here = candidates names after stops q j f in
-      let rest = layer names after stops q (j + 1) F in
-      ap (λ l. here ++ l) (layer-more (j + 1) F a ∙ ap (λ n. rest ++ candidates names after stops q n a) z)
-      ∙ sym (append-assoc here rest (candidates names after stops q (j + suc (length F)) a))

@@ -1,1 +1,0 @@
-use Rattle.planner.proofs.calls.plan_with.Needs as need
