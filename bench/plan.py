@@ -70,7 +70,7 @@ def rounds(span, drive):
     return [(drive, 2, at - 2, at - 2) for at in range(168, span + 1, 168)]
 
 
-# The slowest found, among some hundred random tours and rounds, that are not refused for want of labels.
+# The slowest found, in two minutes of random tours and among rounds, that are not refused for want of labels.
 HARDEST = {
     ("us7", 384, 48): [(1, 2, 190, 190), (0, 4, 380, 380)],
     ("us7", 2688, 48): [(1, 1, 669, 671), (1, 4, 1340, 1340), (1, 3, 2005, 2013), (1, 1, 2685, 2687)],
