@@ -1,6 +1,7 @@
 -- The promise: which answer fits a call, by the history alone, and a whole run of calls. Assumes nothing.
 --   Needs .. h q n           n is the number of labels needed at quarter q
 --   Recording, Adding, Dropping, Planning    which answer fits the call, and the history after it
+--   Exactly .. h k a         11 exactly where too many labels are needed, and else 10 exactly where no letters complete the log
 --   Kept .. h calls answers  each answer fits its call in turn
 use mathlib.Core.List.{List, [], _∷_, _++_, map}
 use mathlib.Core.Logic.{_⊎_}
@@ -32,6 +33,12 @@ use Rattle.planner.specs.Ranges.{In-range}
 -- where a refusal leaves the history as it was
 abbrev pub Refuses : History → History → ℕ → Refusal → Type 0
 Refuses h h′ n r = (h′ ≡ h) × (number r ≡ n)
+
+-- the answer is a refusal with this number
+abbrev pub Refused-with : ℕ → Answer → Type 0
+Refused-with n Done = ⊥
+Refused-with n (Refused r) = number r ≡ n
+Refused-with n (Planned end letters) = ⊥
 
 module _ {R : Type 0} (names : R → ℕ → Duty → Option Violation) (after : R → ℕ → Duty → R) (better : R → R → Type 0) (opened : R) (lawful : List Duty → Type 0) where
   -- the state's row after the recorded log
@@ -84,14 +91,21 @@ module _ {R : Type 0} (names : R → ℕ → Duty → Option Violation) (after :
     pub completes : Completes lawful h letters e
     pub least : (ls : List Duty) (e′ : ℕ) → Completes lawful h ls e′ → e ≤ e′
 
-  -- plan: 6 to 9 where they apply; else an end, 10 exactly where no letters exist, 11 exactly where too many labels are needed
+  -- what is promised of 10 and 11 where 6 to 9 do not apply
+  pub record Exactly (h : History) (k : ℕ) (a : Answer) : Type 0 where
+    -- 11 exactly where too many labels are needed at a quarter that counts
+    pub eleven : (Refused-with 11 a → Crowded h k) × (Crowded h k → Refused-with 11 a)
+    -- where it is not 11, 10 exactly where no letters complete the log
+    pub ten : (Refused-with 11 a → ⊥) → (Refused-with 10 a → Infeasible h) × (Infeasible h → Refused-with 10 a)
+
+  -- plan: the first of 6 to 9 that applies; else an end, 10 or 11
   abbrev pub Planning : History → ℕ → ℕ → ℕ → Answer → History → Type 0
   Planning h labels predecessors output Done h′ = ⊥
   Planning h labels predecessors output (Refused r) h′ =
       (h′ ≡ h) × (Unready (h .stops) (now-of h) labels predecessors output r
-      ⊎ (Ready (h .stops) (now-of h) labels predecessors output × (((number r ≡ 10) × Infeasible h × (Crowded h (width labels) → ⊥)) ⊎ ((number r ≡ 11) × Crowded h (width labels)))))
+      ⊎ (Ready (h .stops) (now-of h) labels predecessors output × ((number r ≡ 10) ⊎ (number r ≡ 11)) × Exactly h (width labels) (Refused r)))
   Planning h labels predecessors output (Planned end letters) h′ =
-      (h′ ≡ h) × Ready (h .stops) (now-of h) labels predecessors output × Planned-end h end (vec-items letters) × (Crowded h (width labels) → ⊥)
+      (h′ ≡ h) × Ready (h .stops) (now-of h) labels predecessors output × Planned-end h end (vec-items letters) × Exactly h (width labels) (Planned end letters)
 
   abbrev pub Answers : History → Call → Answer → History → Type 0
   Answers h (Record letter count) a h′ = Recording h letter count a h′
