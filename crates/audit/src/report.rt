@@ -46,7 +46,7 @@ fn rule_text(set: RuleSet, rule: u8) -> &'static str {
     }
 }
 
-pub fn refused(rt: &LibcRuntime, why: Refusal) -> io::Result<()> {
+pub(crate) fn refused(rt: &LibcRuntime, why: Refusal) -> io::Result<()> {
     let number = why.number();
     println!(rt, "refused,{number}")?;
     match why {
@@ -62,7 +62,7 @@ pub fn refused(rt: &LibcRuntime, why: Refusal) -> io::Result<()> {
     }
 }
 
-pub fn lawful(rt: &LibcRuntime, set: RuleSet, length: usize) -> io::Result<()> {
+pub(crate) fn lawful(rt: &LibcRuntime, set: RuleSet, length: usize) -> io::Result<()> {
     let name = set.name();
     println!(rt, "lawful,{length}")?;
     println!(
@@ -71,7 +71,12 @@ pub fn lawful(rt: &LibcRuntime, set: RuleSet, length: usize) -> io::Result<()> {
     )
 }
 
-pub fn breached(rt: &LibcRuntime, set: RuleSet, length: usize, breach: Breach) -> io::Result<()> {
+pub(crate) fn breached(
+    rt: &LibcRuntime,
+    set: RuleSet,
+    length: usize,
+    breach: Breach,
+) -> io::Result<()> {
     let Breach {
         quarter,
         rule,

@@ -71,7 +71,7 @@ fn weekly_rest_over_us() -> WeeklyRest<UsShift> {
 }
 
 // What the judge finds under the pile of that name.
-pub fn judged(name: &[u8], log: &[u8]) -> Result<(usize, Option<Breach>), Refusal> {
+pub(crate) fn judged(name: &[u8], log: &[u8]) -> Result<(usize, Option<Breach>), Refusal> {
     match name {
         b"rest_break" => judge(&break_over_us(4, 3, Pause::Rest), log),
         b"wheel_break" => judge(&break_over_us(4, 3, Pause::OffWheel), log),

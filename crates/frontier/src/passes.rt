@@ -11,7 +11,7 @@ use crate::order::Covers;
 use crate::refusal::Refusal;
 
 // Whether one of the first `count` covers `x`.
-pub fn is_covered<T: Covers>(places: &[T], count: usize, x: &T) -> bool
+pub(crate) fn is_covered<T: Covers>(places: &[T], count: usize, x: &T) -> bool
     requires { ⌜ count ≤ length (now places) ⌝ }
     ensures { λ r. ⌜ Decides r (Covered covers (take count (now (places .entry))) (now (x .entry))) ⌝ }
 {
@@ -24,7 +24,7 @@ pub fn is_covered<T: Covers>(places: &[T], count: usize, x: &T) -> bool
 }
 
 // Moves those of the first `count` that `x` does not cover to the front, and says how many they are.
-pub fn compact<T: Covers>(places: &mut [T], count: usize, x: &T) -> usize
+pub(crate) fn compact<T: Covers>(places: &mut [T], count: usize, x: &T) -> usize
     requires { ⌜ count ≤ length (now places) ⌝ }
     ensures left { λ r. ⌜ Without covers (now (x .entry)) (take count (now (places .entry))) (take r (now (places .exit))) ⌝ }
     ensures fewer { λ r. ⌜ r ≤ count ⌝ }
@@ -44,7 +44,7 @@ pub fn compact<T: Covers>(places: &mut [T], count: usize, x: &T) -> usize
 }
 
 // Offers `x` to the first `count`, and says how many are kept then.
-pub fn keep<T: Covers>(places: &mut [T], count: usize, x: T) -> Result<usize, Refusal>
+pub(crate) fn keep<T: Covers>(places: &mut [T], count: usize, x: T) -> Result<usize, Refusal>
     ensures value { λ r. ⌜ Cases r (λ n. Offered covers (take count (now (places .entry))) x (take n (now (places .exit)))) (λ why. Lacks-place covers (now (places .entry)) (take count (now (places .entry))) x why) ⌝ }
     ensures smallest { λ r. ⌜ Cases r (λ n. Still-smallest covers (take count (now (places .entry))) x (take n (now (places .exit)))) (λ _. Unit {0}) ⌝ }
     ensures refused { λ r. ⌜ Cases r (λ _. Unit {0}) (λ _. now (places .exit) ≡ now (places .entry)) ⌝ }

@@ -15,7 +15,7 @@ use frontier::Frontier;
 use frontier::Refusal;
 
 // Offers the pairs in turn, up to the first that is refused.
-pub fn offer_all(frontier: &mut Frontier<'_, Pair>, pairs: &[Pair]) -> Result<(), Refusal>
+pub(crate) fn offer_all(frontier: &mut Frontier<'_, Pair>, pairs: &[Pair]) -> Result<(), Refusal>
     ensures smallest { λ r. ⌜ ((seen : List Pair) → Smallest-cover No-larger (kept (now (frontier .entry))) seen → Cases r (λ _. Smallest-cover No-larger (kept (now (frontier .exit))) (seen ++ now (pairs .entry))) (λ why. number why ≡ 11)) ⌝ }
     ensures lender { λ r. ⌜ name (now (frontier .exit) .places) ≡ name (now (frontier .entry) .places) ⌝ }
 {
@@ -26,7 +26,7 @@ pub fn offer_all(frontier: &mut Frontier<'_, Pair>, pairs: &[Pair]) -> Result<()
 }
 
 // Leaves a smallest cover of `pairs` at the front of `places`, and says how many they are.
-pub fn choose(pairs: &[Pair], places: &mut [Pair]) -> Result<usize, Refusal>
+pub(crate) fn choose(pairs: &[Pair], places: &mut [Pair]) -> Result<usize, Refusal>
     ensures smallest { λ r. ⌜ Cases r (λ n. Smallest-cover No-larger (take n (now (places .exit))) (now (pairs .entry))) (λ why. number why ≡ 11) ⌝ }
     ensures within { λ r. ⌜ Cases r (λ n. n ≤ length (now (places .exit))) (λ _. Unit {0}) ⌝ }
 {
@@ -37,7 +37,7 @@ pub fn choose(pairs: &[Pair], places: &mut [Pair]) -> Result<usize, Refusal>
 
 // Leaves a smallest cover of the pairs that stand in the slice at its front, and says how many they are.
 // Each is offered from where it stands to a frontier over the same slice, which keeps fewer than came before it.
-pub fn choose_in_place(pairs: &mut [Pair]) -> usize
+pub(crate) fn choose_in_place(pairs: &mut [Pair]) -> usize
     ensures smallest { λ r. ⌜ Smallest-cover No-larger (take r (now (pairs .exit))) (now (pairs .entry)) ⌝ }
     ensures within { λ r. ⌜ r ≤ length (now (pairs .exit)) ⌝ }
 {
@@ -51,7 +51,11 @@ pub fn choose_in_place(pairs: &mut [Pair]) -> usize
 }
 
 // Makes the same choice `times` times, and at least once.
-pub fn choose_often(pairs: &[Pair], places: &mut [Pair], times: u32) -> Result<usize, Refusal>
+pub(crate) fn choose_often(
+    pairs: &[Pair],
+    places: &mut [Pair],
+    times: u32,
+) -> Result<usize, Refusal>
     ensures smallest { λ r. ⌜ Cases r (λ n. Smallest-cover No-larger (take n (now (places .exit))) (now (pairs .entry))) (λ why. number why ≡ 11) ⌝ }
     ensures within { λ r. ⌜ Cases r (λ n. n ≤ length (now (places .exit))) (λ _. Unit {0}) ⌝ }
 {

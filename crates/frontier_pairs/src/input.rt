@@ -21,7 +21,7 @@ fn pair_of(line: &str) -> Option<Pair>
 }
 
 // The pairs of standard input, up to its end.
-pub fn read_pairs(rt: &LibcRuntime) -> Result<Vec<Pair>, AnyError> {
+pub(crate) fn read_pairs(rt: &LibcRuntime) -> Result<Vec<Pair>, AnyError> {
     let mut pairs = Vec::new(rt.alloc());
     for line in rt.lines(rt.alloc()) {
         let line = line?;

@@ -26,31 +26,36 @@ module _ {R : Type 0} (names : R → ℕ → Duty → Option Violation) (after :
   promised-plan Done a = absurd a
   promised-plan (Refused why) (inl unready) = (refl, inl unready)
   promised-plan (Refused why) (inr (ready, inl ten)) =
-      let none = none-infeasible names after better opened lawful judged h recorded (ready .stop) (fits (ready .stop)) (width labels) (ten .1) in
-      ( refl,
-        inr
-        ( ready,
+      let none = none-infeasible names after better opened lawful judged h recorded (ready .stop) (fits (ready .stop)) (width labels) (ten .1) in (
+        refl,
+        inr (
+          ready,
           inl (ten .0),
           record {
             eleven = ((λ other. absurd (omega (arith, ten .0, other))), (λ crowded. absurd (none .1 crowded)));
             ten = λ _. ((λ _. none .0), (λ _. ten .0));
-          } ) )
+          },
+        ),
+      )
   promised-plan (Refused why) (inr (ready, inr eleven)) =
-      let crowded = crowds-crowded names after better opened lawful judged h recorded (ready .stop) (fits (ready .stop)) (width labels) (eleven .1) in
-      ( refl,
-        inr
-        ( ready,
+      let crowded = crowds-crowded names after better opened lawful judged h recorded (ready .stop) (fits (ready .stop)) (width labels) (eleven .1) in (
+        refl,
+        inr (
+          ready,
           inr (eleven .0),
-          record { eleven = ((λ _. crowded), (λ _. eleven .0)); ten = λ other. absurd (other (eleven .0)) } ) )
+          record { eleven = ((λ _. crowded), (λ _. eleven .0)); ten = λ other. absurd (other (eleven .0)) },
+        ),
+      )
   promised-plan (Planned end letters) a =
-      let planned = schedule-planned names after better opened lawful judged h recorded (a .0 .stop) (fits (a .0 .stop)) (width labels) (a .1 .0) end (a .1 .1) _ (a .1 .2) in
-      ( refl,
+      let planned = schedule-planned names after better opened lawful judged h recorded (a .0 .stop) (fits (a .0 .stop)) (width labels) (a .1 .0) end (a .1 .1) _ (a .1 .2) in (
+        refl,
         a .0,
         planned .0,
         record {
           eleven = ((λ none. absurd none), (λ crowded. absurd (planned .1 crowded)));
           ten = λ _. ((λ none. absurd none), (λ infeasible. absurd (infeasible (planned .0 .letters) end (planned .0 .completes))));
-        } )
+        },
+      )
 
   pub standing-plan : (row : R) (now : ℕ) (stops : List Stop) (a : Answer) → Stands-for names after opened row now stops h → Answers-plan names after better stops row now labels predecessors output a → Answers names after better opened lawful h (Plan labels predecessors output) a h
   standing-plan row now stops a stands answers =

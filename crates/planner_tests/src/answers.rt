@@ -34,7 +34,7 @@ fn print_answer(rt: &LibcRuntime, answer: &Answer) -> io::Result<()> {
 }
 
 // Makes the calls on a new card and a new tour, and prints the title and the answers.
-pub fn try_calls<B: RuleBook>(
+pub(crate) fn try_calls<B: RuleBook>(
     rt: &LibcRuntime,
     title: &str,
     book: &B,
@@ -48,11 +48,11 @@ pub fn try_calls<B: RuleBook>(
     Ok(())
 }
 
-pub fn record(letter: u8, count: usize) -> Call {
+pub(crate) fn record(letter: u8, count: usize) -> Call {
     Call::Record { letter, count }
 }
 
-pub fn add(drive: u16, service: u16, opens: u16, closes: u16) -> Call {
+pub(crate) fn add(drive: u16, service: u16, opens: u16, closes: u16) -> Call {
     Call::Add {
         drive,
         service,
@@ -61,7 +61,7 @@ pub fn add(drive: u16, service: u16, opens: u16, closes: u16) -> Call {
     }
 }
 
-pub fn plan(labels: usize, predecessors: usize, output: usize) -> Call {
+pub(crate) fn plan(labels: usize, predecessors: usize, output: usize) -> Call {
     Call::Plan {
         labels,
         predecessors,

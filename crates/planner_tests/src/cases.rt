@@ -19,7 +19,7 @@ use std::io;
 
 // Quarters 0 to 29 are recorded, with 20 of driving: 12 more, a break of 2, and 3 more reach the stop before quarter 47.
 // With the 12 recorded too, the stop's 15 do not fit in the 44 of a shift.
-pub fn recorded(rt: &LibcRuntime) -> io::Result<()> {
+pub(crate) fn recorded(rt: &LibcRuntime) -> io::Result<()> {
     let calls = [
         record(b'R', 10),
         record(b'D', 20),
@@ -32,7 +32,7 @@ pub fn recorded(rt: &LibcRuntime) -> io::Result<()> {
 }
 
 // With the second stop the end is its opening and its service; without it, the first stop's end.
-pub fn dropped(rt: &LibcRuntime) -> io::Result<()> {
+pub(crate) fn dropped(rt: &LibcRuntime) -> io::Result<()> {
     let calls = [
         add(3, 1, 0, 10),
         add(2, 1, 8, 10),
@@ -54,7 +54,7 @@ fn stops_at(heap: Global, openings: &[u16]) -> Result<Vec<Call>, AllocError> {
 }
 
 // One stop every 168 quarters leaves no rest of 180, and without one nobody is on duty from about quarter 576 on.
-pub fn no_weekly_rest(rt: &LibcRuntime) -> io::Result<()> {
+pub(crate) fn no_weekly_rest(rt: &LibcRuntime) -> io::Result<()> {
     let openings = [
         0,
         168,
@@ -78,7 +78,7 @@ pub fn no_weekly_rest(rt: &LibcRuntime) -> io::Result<()> {
 }
 
 // Four stops a week, one a day from Monday on; the last opens at quarter 2304.
-pub fn sixteen(rt: &LibcRuntime) -> io::Result<()> {
+pub(crate) fn sixteen(rt: &LibcRuntime) -> io::Result<()> {
     let openings = [
         0,
         96,

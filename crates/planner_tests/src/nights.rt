@@ -16,7 +16,7 @@ use std::io;
 
 // Quarters 24 to 79 of a day are for driving: 10 from 24 on and a service end before 36, and of 60 more 44 are left that day
 // and 16 are driven from quarter 120 on.
-pub fn alone(rt: &LibcRuntime) -> io::Result<()> {
+pub(crate) fn alone(rt: &LibcRuntime) -> io::Result<()> {
     let records = [
         record(b'D', 1),
         record(b'R', 24),
@@ -37,7 +37,7 @@ pub fn alone(rt: &LibcRuntime) -> io::Result<()> {
 }
 
 // Over the three books of us7 it is layer 4.
-pub fn over_us7(rt: &LibcRuntime) -> io::Result<()> {
+pub(crate) fn over_us7(rt: &LibcRuntime) -> io::Result<()> {
     let book = Layered {
         own: DayOnly,
         below: us7(),

@@ -12,7 +12,7 @@ use rules::layered::LayeredRuleBook;
 use std::io;
 
 // Letters, counts and a breach; what is refused leaves nothing on the card.
-pub fn recording(rt: &LibcRuntime) -> io::Result<()> {
+pub(crate) fn recording(rt: &LibcRuntime) -> io::Result<()> {
     let letters = [
         record(b'X', 1),
         record(b'X', 0),
@@ -38,7 +38,7 @@ pub fn recording(rt: &LibcRuntime) -> io::Result<()> {
 }
 
 // Fields out of range beside the largest that are in range, and a tour that is full.
-pub fn adding(rt: &LibcRuntime) -> io::Result<()> {
+pub(crate) fn adding(rt: &LibcRuntime) -> io::Result<()> {
     let fields = [
         add(673, 1, 0, 1),
         add(672, 1, 0, 1),
@@ -59,7 +59,7 @@ pub fn adding(rt: &LibcRuntime) -> io::Result<()> {
 }
 
 // No stop, and buffers one too small; the first of several that are too small is named.
-pub fn planning(rt: &LibcRuntime) -> io::Result<()> {
+pub(crate) fn planning(rt: &LibcRuntime) -> io::Result<()> {
     let none = [
         Call::Drop,
         plan(3, 2, 2),
