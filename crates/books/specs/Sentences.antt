@@ -1,5 +1,5 @@
 -- The rules, as sentences about a whole log l and a quarter q of it. Assumes nothing.
---   Since len l q s      s is the first quarter after the latest rest run of at least len quarters that ended before q
+--   Since len l q s      s is the first quarter after the latest rest run of at least len quarters that ended before q, q on duty
 --   day, week            a day has 96 quarters, a week 672; day 0 and week 0 begin at quarter 0
 --   Rule                 the rules, with the figures that a rule set gives them
 --   Keeps rule l q       quarter q keeps the rule

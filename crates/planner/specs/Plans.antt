@@ -2,8 +2,8 @@
 --   Unready .. r         the first of the refusals 6 to 9 that applies
 --   Ready ..             none of them applies
 --   Sized .. r           the width and the span, or the first of those refusals
---   Schedule .. out e    the letters at the front of the output serve the tour lawfully and end at e, and no others end earlier
---   Solved .. out r      a schedule; 10, no letters serve the tour; 11, too many labels are needed
+--   Schedule .. out e    the letters at the front of the output serve the tour lawfully and end at e, and no lawful others end earlier
+--   Solved .. out r      a schedule; 10, no lawful letters serve the tour; 11, too many labels are needed
 --   Planned .. r         the answer to any call
 --   Left r before after cleared    what a working buffer holds then: after 6 to 9 what it held, else it is cleared
 --   Output-left now r before after    what the output holds behind the letters

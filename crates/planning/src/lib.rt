@@ -13,7 +13,7 @@ pub struct Stop {
 }
 
 // How far a tour has come: the current stop, which is the first not fully served, the driving and the service that it
-// lacks, and the book's state as its row. `from` says which label and status it came from; nothing is promised of it.
+// lacks, and the book's state as its row. `from` says which label and status it came from; it is no part of covering.
 #[derive(Clone, Copy)]
 pub struct Label<R> {
     pub stop: usize,

@@ -1,7 +1,8 @@
 -- A book over another: what both allow is allowed, and a log is allowed exactly when each allows it.
 use mathlib.Core.List.{List, [], _∷_}
+use mathlib.Core.Logic.{_⊎_, inl, inr}
 use mathlib.Core.Path.{_≡_, refl, sym, ap, ap₂, subst, _∙_}
-use Prim.Native.Nat.{ℕ, _+_}
+use Prim.Native.Nat.{ℕ, _+_, min}
 use native.Mathlib.Omega.{arith}
 use Rattle.std.specs.declared.option.Option.{Option}
 use Rattle.std.specs.declared.option.Option.the-variants.{Some, None}
@@ -25,6 +26,12 @@ named-both n a b p q = subst (λ o. first-named o (raised n b) ≡ None) (sym p)
 pub moved-both : {S : Type 0} (a b : Option Violation) (new old : S) → a ≡ None → b ≡ None → moved (first-named a b) new old ≡ new
 moved-both a b new old p q =
     ap (λ o. moved (first-named o b) new old) p ∙ ap (λ o. moved o new old) q
+
+-- what is named by a pile is named by its lower book, or by its upper one with a layer counted on
+pub named-cases : (n : ℕ) (a b : Option Violation) (v : Violation) → first-named a (raised n b) ≡ Some v → (a ≡ Some v) ⊎ ((w : Violation) × (b ≡ Some w) × (w .rule ≡ v .rule) × (min 255 (n + w .layer) ≡ v .layer))
+named-cases n None None v e = absurd (some-none v (sym e))
+named-cases n None (Some w) v e = let same : record { rule = w .rule; layer = min 255 (n + w .layer) } ≡ v = cc in inr (w, refl, ap (λ u. u .rule) same, ap (λ u. u .layer) same)
+named-cases n (Some u) b v e = inl e
 
 -- what holds of the old state and of the new one holds of the state that is moved to
 pub moved-either : {S V : Type 0} (P : S → Type 0) (o : Option V) (new old : S) → P new → P old → P (moved o new old)

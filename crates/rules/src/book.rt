@@ -81,10 +81,12 @@ pub trait RuleBook: Copy + Drop {
 
     law renewed: { (s : Self·Row) (l : List Duty) → (lawful s l → lawful (opened s) l) × (lawful (opened s) l → lawful s l) };
 
-    // What a book of one layer names is a rule of its own.
-    law owns: { (s : Self·Row) (q : ℕ) (x : Duty) (v : Violation) → layers ≡ 1 → names s q x ≡ Some v → (lowest ≤ v .rule) × (v .rule ≤ highest) };
+    law based: { (1 ≤ layers) × (layers ≤ 255) };
 
-    law based: { 1 ≤ layers };
+    // A breach is named in one of the book's layers, and in its own, the topmost, by a rule of its own.
+    law placed: { (s : Self·Row) (q : ℕ) (x : Duty) (v : Violation) → names s q x ≡ Some v → (1 ≤ v .layer) × (v .layer ≤ layers) };
+
+    law owns: { (s : Self·Row) (q : ℕ) (x : Duty) (v : Violation) → names s q x ≡ Some v → layers < 255 → v .layer ≡ layers → (lowest ≤ v .rule) × (v .rule ≤ highest) };
 
     // The lowest and the highest number of its own rules, by the constants.
     fn owned() -> (u8, u8)

@@ -9,7 +9,7 @@ use crate::breach::BreachPartialEq;
 pub enum Refusal {
     // A byte that is no R, W or D.
     Letter,
-    // More quarters than the horizon has.
+    // More quarters than the horizon has, or none to record.
     Horizon,
     // A rule is broken.
     Breach(Breach),
@@ -19,7 +19,7 @@ pub enum Refusal {
     Field,
     // The tour has no stop.
     NoStop,
-    // A sheet that is too small.
+    // A sheet that is too small or too large.
     Sheet,
     // A trail that is too small.
     Trail,

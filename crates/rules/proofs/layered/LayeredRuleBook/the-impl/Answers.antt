@@ -1,8 +1,10 @@
 use native.Mathlib.Omega.{arith}
-use mathlib.Core.Path.{sym, subst, subst₂}
+use mathlib.Core.Logic.{inl, inr}
+use Prim.Native.Nat.{_<_}
+use mathlib.Core.Path.{_≡_, sym, subst, subst₂}
 use Rattle.rules.proofs.layered.LayeredRuleBook.the-impl.Needs as need
 use Rattle.rules.specs.Layers.{first-named}
-use Rattle.rules.proofs.Layers.{named-none, named-both, moved-both, moved-either, allowed-parts, allowed-both}
+use Rattle.rules.proofs.Layers.{named-cases, named-none, named-both, moved-both, moved-either, allowed-parts, allowed-both}
 
 pub keeps-law : need.keeps-law
 keeps-law g a b q x sa sb short better none =
@@ -33,8 +35,24 @@ fixed-law g s q x l =
     ((λ h. (low .0 (h .0), up .0 (h .1))), (λ h. (low .1 (h .0), up .1 (h .1))))
     ((λ h. h), (λ h. h))
 
-pub owns-law : need.owns-law
-owns-law g s q x v one named = absurd (omega (arith, g .L·RuleBook·met .based, g .B·RuleBook·met .based))
-
 pub based-law : need.based-law
-based-law g = omega (arith, g .L·RuleBook·met .based, g .B·RuleBook·met .based)
+based-law g = omega (arith, g .L·RuleBook·met .based .0, g .B·RuleBook·met .based .0)
+
+pub placed-law : need.placed-law
+placed-law g s q x v e =
+    elim (named-cases (g .B·RuleBook .layers) (g .B·RuleBook .names (s .below) q x) (g .L·RuleBook .names (s .own) q x) v e) [
+      | inl low ↦ let p = g .B·RuleBook·met .placed (s .below) q x v low in omega (arith, p .0, p .1, g .B·RuleBook·met .based .1)
+      | inr up ↦ let p = g .L·RuleBook·met .placed (s .own) q x (up .0) (up .1) in omega (arith, p .0, p .1, up .3)
+    ]
+
+pub owns-law : need.owns-law
+owns-law g s q x v e short top =
+    elim (named-cases (g .B·RuleBook .layers) (g .B·RuleBook .names (s .below) q x) (g .L·RuleBook .names (s .own) q x) v e) [
+      | inl low ↦ let p = g .B·RuleBook·met .placed (s .below) q x v low in absurd (omega (arith, p .1, g .L·RuleBook·met .based .0, short, top))
+      | inr up ↦
+          let p = g .L·RuleBook·met .placed (s .own) q x (up .0) (up .1) in
+          let few : g .L·RuleBook .layers < 255 = omega (arith, short) in
+          let own : up .0 .layer ≡ g .L·RuleBook .layers = omega (arith, p .1, up .3, top, short) in
+          let h = g .L·RuleBook·met .owns (s .own) q x (up .0) (up .1) few own in
+          (omega (arith, h .0, up .2), omega (arith, h .1, up .2))
+    ]
