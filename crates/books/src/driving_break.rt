@@ -3,7 +3,7 @@ ghost use Rattle.books.specs.Bounds.{Break-figures, Break-bounds};
 use crate::pause::Pause;
 use rules::layered::Layered;
 
-// The limit, the length and the kind of the pause; the driving since the latest pause, and the pause run.
+// The limit, the length and the kind of the pause; the driving since the last pause, and the pause run.
 #[derive(Clone, Copy)]
 pub struct BreakState {
     limit: u16,

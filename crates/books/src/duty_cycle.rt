@@ -1,8 +1,8 @@
-// The duty cycle: how much of the latest days may be on duty before more is driven.
+// The duty cycle: how much of the last days may be on duty before more is driven.
 ghost use Rattle.books.specs.Bounds.{Cycle-figures, Cycle-rest, Cycle-counts};
 use rules::layered::Layered;
 
-// The number of days, the limit and the length of the restart; the quarters on duty since the latest
+// The number of days, the limit and the length of the restart; the quarters on duty since the last
 // restart of the day of the next quarter and of each day before it, and the rest run.
 #[derive(Clone, Copy)]
 pub struct CycleState {

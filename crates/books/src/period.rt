@@ -1,4 +1,4 @@
-// A duty period: what has gone by since the latest full rest.
+// A duty period: what has gone by since the last full rest.
 ghost use Prim.Native.Nat.{_<_};
 ghost use mathlib.Core.Path.{_≡_};
 ghost use Rattle.books.specs.Period.{No-worse, next-period};
@@ -6,7 +6,7 @@ use duty::Duty;
 use duty::next_run;
 use rules::book::Figures;
 
-// The quarters since the latest full rest, those of them at the wheel, and the rest run.
+// The quarters since the last full rest, those of them at the wheel, and the rest run.
 #[derive(Clone, Copy, PartialEq, Eq, Debug)]
 pub struct PeriodRow {
     pub elapsed: u16,

@@ -2,7 +2,7 @@
 ghost use Rattle.books.specs.Bounds.{Weekly-rest-bounds};
 use rules::layered::Layered;
 
-// The quarters since the latest full rest, and the rest run.
+// The quarters since the last full rest, and the rest run.
 #[derive(Clone, Copy)]
 pub struct WeeklyRestState {
     elapsed: u16,

@@ -1,4 +1,4 @@
-// What covers what: a preorder, with a test for it.
+// What covers what: a preorder, with a way to ask it.
 ghost use denote.Ref.{now};
 ghost use Rattle.std.specs.Orderings.{Decides};
 

@@ -1,4 +1,4 @@
-// The two passes over the kept elements: the test and the compaction.
+// The two passes over the kept elements: the asking and the compaction.
 ghost use mathlib.Core.Path.{_≡_};
 ghost use Prim.Native.Nat.{_≤_};
 ghost use lib.ListN.{length, take, drop};

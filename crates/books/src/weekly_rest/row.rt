@@ -1,4 +1,4 @@
-// The quarters since the latest full rest and the rest run, as plain figures.
+// The quarters since the last full rest and the rest run, as plain figures.
 ghost use mathlib.Core.Path.{_≡_};
 ghost use Rattle.books.specs.WeeklyRest.{Rest-no-worse, next-weekly-rest};
 use duty::Duty;
