@@ -19,8 +19,8 @@ use planning::Label;
 use planning::Stop;
 use rules::book::RuleBook;
 
-// What a search comes to: the last quarter but one of the schedule, counted from the beginning, with the place of its
-// label; no schedule; or more labels than there are places.
+// What a search comes to: the last quarter of the schedule, counted from 0 at the card's, with the place of the label
+// that works it; no schedule; or more labels than there are places.
 #[derive(Clone, Copy)]
 pub(crate) enum Outcome {
     End(usize, usize),
