@@ -1,4 +1,6 @@
 // Reads the name of a rule set and a log from standard input, and says whether the log keeps the rules.
+#![tactic(auto)]
+
 mod input;
 mod report;
 

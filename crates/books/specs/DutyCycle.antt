@@ -9,6 +9,8 @@
 --   given_cycle              the same, each figure taken as the nearest in its range
 --   remade_cycle s           the row s where it is a state's, else the state before quarter 0
 use Rattle.std.specs.Prelude.{◌≡◌, ℕ, ◌≤◌, min, max, Bool, cond, ◌&&◌, Some, None, Option, ◌==◌, nat_le}
+use Rattle.std.specs.Ordering.{on, eq_of_both}
+use Rattle.std.specs.Cmp.Lexicographic.{pointwise}
 use Rattle.duty.specs.declared.Duty.{Duty}
 use Rattle.duty.specs.declared.Duty.TheVariants.{Rest, Work, Drive}
 use Rattle.duty.specs.Duties.{resting, working}
@@ -57,6 +59,14 @@ abbrev pub cycle_after : CycleRow → ℕ → Duty → CycleRow
 cycle_after s q x = moved (cycle_names s q x) (next_cycle s q x) s
 
 -- whether a row is a state's
+-- whether two rows are the same, figure by figure
+abbrev pub same_cycle : CycleRow → CycleRow → Bool
+same_cycle =
+    eq_of_both (on (λ r. r.days) ◌==◌)
+    (eq_of_both (on (λ r. r.limit) ◌==◌)
+    (eq_of_both (on (λ r. r.restart) ◌==◌)
+    (eq_of_both (on (λ r. r.duty) (pointwise ◌==◌)) (on (λ r. r.rest) ◌==◌))))
+
 abbrev pub fits_cycle : CycleRow → Bool
 fits_cycle s = nat_le 1 s.days && nat_le s.days 8 && nat_le 1 s.limit && nat_le s.limit 768 && nat_le 1 s.restart && nat_le s.restart 672 && nat_le s.rest s.restart && all_within (most_on s.days s.restart s.rest) s.duty
 

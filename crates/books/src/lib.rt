@@ -1,4 +1,6 @@
 // The rule books: two bottom ones, and the layers that are piled on them.
+#![tactic(auto)]
+
 pub mod driving_break;
 pub mod duty_cycle;
 pub mod eu_day;

@@ -1,5 +1,7 @@
 // Judges each line of standard input, a pile's name and a log spelled as runs, and prints the answers.
 // A line that begins with `#` says how the answer of the lines below it was worked out.
+#![tactic(auto)]
+
 mod piles;
 
 use case_lines::answer::Answer;

@@ -1,2 +1,4 @@
 // Texts in a framed stream.
+#![tactic(auto)]
+
 pub mod frames;

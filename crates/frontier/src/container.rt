@@ -18,7 +18,7 @@ impl<'a, T: Covers> Frontier<'a, T> {
     // Opened empty: what stands in the places is left there, and none of it is kept.
     pub fn new(places: &'a mut [T]) -> Frontier<'a, T>
         ensures empty { kept result ≡ [] }
-        ensures smallest { SmallestCover covers (kept result) [] }
+        ensures smallest { SmallestCover T.covers (kept result) [] }
         ensures same { all result ≡ places.old }
         ensures lender { result.places.ghost_name ≡ places.entry.ghost_name }
     {
@@ -48,8 +48,8 @@ impl<'a, T: Covers> Frontier<'a, T> {
     // Where a kept element covers `x`, nothing changes; else those that `x` covers leave, and `x` is put last.
     // Where it lacks a place even then, it is refused, and nothing changes.
     pub fn offer(&mut self, x: T) -> Result<(), Refusal>
-        ensures value { MatchResult result (λ _. Offered covers (kept self.old) x (kept self.new)) (λ why. LacksPlace covers (all self.old) (kept self.old) x why) }
-        ensures smallest { OnOk result (StillSmallest covers (kept self.old) x (kept self.new)) }
+        ensures value { MatchResult result (λ _. Offered T.covers (kept self.old) x (kept self.new)) (λ why. LacksPlace T.covers (all self.old) (kept self.old) x why) }
+        ensures smallest { OnOk result (StillSmallest T.covers (kept self.old) x (kept self.new)) }
         ensures refused { OnErr result (Same self.old self.new) }
         ensures beyond { SameBeyond self.old self.new }
         ensures room { length (all self.new) ≡ length (all self.old) }

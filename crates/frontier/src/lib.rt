@@ -1,4 +1,6 @@
 // The smallest cover of what was offered, kept in a lent slice, for any elements of which some cover others.
+#![tactic(auto)]
+
 mod container;
 mod order;
 mod passes;

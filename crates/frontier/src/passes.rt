@@ -10,7 +10,7 @@ use crate::refusal::Refusal;
 // Whether one of the first `count` covers `x`.
 pub(crate) fn is_covered<T: Covers>(places: &[T], count: usize, x: &T) -> bool
     requires { count ≤ length places.now }
-    ensures { Decides result (Covered covers (take count places.now) x.now) }
+    ensures { Decides result (Covered T.covers (take count places.now) x.now) }
 {
     for i in 0..count {
         if places[i].covers(x) {
@@ -24,7 +24,7 @@ pub(crate) fn is_covered<T: Covers>(places: &[T], count: usize, x: &T) -> bool
 fn uncovered<T: Covers>(places: &[T], count: usize, x: &T) -> usize
     requires { count ≤ length places.now }
     ensures fewer { result ≤ count }
-    ensures stay { Without covers x.now (take result places.now) (take result places.now) }
+    ensures stay { Without T.covers x.now (take result places.now) (take result places.now) }
 {
     for i in 0..count {
         if x.covers(&places[i]) {
@@ -37,7 +37,7 @@ fn uncovered<T: Covers>(places: &[T], count: usize, x: &T) -> usize
 // Moves those of the first `count` that `x` does not cover to the front, and says how many they are.
 pub(crate) fn compact<T: Covers>(places: &mut [T], count: usize, x: &T) -> usize
     requires { count ≤ length places.old }
-    ensures left { Without covers x.now (take count places.old) (take result places.new) }
+    ensures left { Without T.covers x.now (take count places.old) (take result places.new) }
     ensures fewer { result ≤ count }
     ensures beyond { drop count places.new ≡ drop count places.old }
     ensures same { result ≡ count → places.new ≡ places.old }
@@ -57,8 +57,8 @@ pub(crate) fn compact<T: Covers>(places: &mut [T], count: usize, x: &T) -> usize
 
 // Offers `x` to the first `count`, and says how many are kept then.
 pub(crate) fn keep<T: Covers>(places: &mut [T], count: usize, x: T) -> Result<usize, Refusal>
-    ensures value { MatchResult result (λ n. Offered covers (take count places.old) x (take n places.new)) (λ why. LacksPlace covers places.old (take count places.old) x why) }
-    ensures smallest { IfOk result (λ n. StillSmallest covers (take count places.old) x (take n places.new)) }
+    ensures value { MatchResult result (λ n. Offered T.covers (take count places.old) x (take n places.new)) (λ why. LacksPlace T.covers places.old (take count places.old) x why) }
+    ensures smallest { IfOk result (λ n. StillSmallest T.covers (take count places.old) x (take n places.new)) }
     ensures refused { OnErr result (places.new ≡ places.old) }
     ensures beyond { IfOk result (λ n. SamePast (take count places.old) (take n places.new) places.old places.new) }
 {

@@ -1,5 +1,7 @@
 // Reads pairs of numbers, a pair to a line, and prints a smallest cover of them: smaller in both numbers is better.
 // An argument says how often the choice is made.
+#![tactic(auto)]
+
 mod choice;
 mod input;
 mod pair;

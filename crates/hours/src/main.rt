@@ -1,4 +1,6 @@
 // Copies a text from standard input to standard output as its reply.
+#![tactic(auto)]
+
 use replies::printing::printed;
 use std::io;
 use std::io::{Read, Write};

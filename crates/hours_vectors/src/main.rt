@@ -1,4 +1,6 @@
 // Answers each framed text of standard input, and prints the replies without their schedules.
+#![tactic(auto)]
+
 use framed_texts::frames::cut_text;
 use replies::printing::printed;
 use std::io;

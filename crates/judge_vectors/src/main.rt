@@ -1,4 +1,6 @@
 // Judges each line of standard input, a rule set's name and a log spelled as runs, and prints the answers.
+#![tactic(auto)]
+
 use case_lines::answer::Answer;
 use case_lines::run::log_of;
 use rules::refusal::Refusal;

@@ -1,5 +1,7 @@
 // Plans the tour of each line of standard input as often as the line says, and prints the last answer: `end,END` or
 // `refused,NUMBER`.
+#![tactic(auto)]
+
 mod input;
 
 use input::calls_of;

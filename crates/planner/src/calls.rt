@@ -69,7 +69,7 @@ fn plan_with<B: RuleBook>(
     predecessors: usize,
     output: usize,
 ) -> Result<Answer, AllocError>
-    ensures { IfOk result (AnswersPlan B.RuleBook.names B.RuleBook.after Row-as-Figures.better (stops_of tour.now) (B.RuleBook.figures card.entry.now.book) card.entry.now.now labels predecessors output) }
+    ensures { IfOk result (AnswersPlan B.RuleBook.names B.RuleBook.after B.Row.Figures.better (stops_of tour.now) (B.RuleBook.figures card.entry.now.book) card.entry.now.now labels predecessors output) }
 {
     let (width, span) = match ready(card, tour, labels, predecessors, output) {
         Ok(size) => size,
@@ -95,7 +95,7 @@ fn make<B: RuleBook>(
     tour: &mut Tour,
     call: Call,
 ) -> Result<Answer, AllocError>
-    ensures { IfOk result (λ a. AnswersCall B.RuleBook.names B.RuleBook.after Row-as-Figures.better B.RuleBook.sound B.RuleBook.opened B.RuleBook.lawful (B.RuleBook.figures card.entry.now.book) card.entry.now.now (stops_of tour.old) call a (B.RuleBook.figures card.exit.now.book) card.exit.now.now (stops_of tour.new)) }
+    ensures { IfOk result (λ a. AnswersCall B.RuleBook.names B.RuleBook.after B.Row.Figures.better B.RuleBook.sound B.RuleBook.opened B.RuleBook.lawful (B.RuleBook.figures card.entry.now.book) card.entry.now.now (stops_of tour.old) call a (B.RuleBook.figures card.exit.now.book) card.exit.now.now (stops_of tour.new)) }
 {
     match call {
         Call::Record { letter, count } => Ok(done_or_refused(card.record(letter, count))),
@@ -120,7 +120,7 @@ pub fn run_calls<B: RuleBook>(
     book: &B,
     calls: &[Call],
 ) -> Result<Vec<Answer>, AllocError>
-    ensures { IfOk result (λ answers. Kept B.RuleBook.names B.RuleBook.after Row-as-Figures.better (B.RuleBook.opened (B.RuleBook.figures book.now)) (B.RuleBook.lawful (B.RuleBook.figures book.now)) fresh calls.now answers.items) }
+    ensures { IfOk result (λ answers. Kept B.RuleBook.names B.RuleBook.after B.Row.Figures.better (B.RuleBook.opened (B.RuleBook.figures book.now)) (B.RuleBook.lawful (B.RuleBook.figures book.now)) fresh calls.now answers.items) }
 {
     let mut card = DriverCard::new(book);
     let mut tour = Tour::new();

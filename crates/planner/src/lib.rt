@@ -1,4 +1,6 @@
 // The driver card, the tour, and the search for the earliest end.
+#![tactic(auto)]
+
 pub mod call;
 pub mod calls;
 pub mod card;

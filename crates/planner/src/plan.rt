@@ -3,7 +3,7 @@ ghost use Rattle.std.specs.Prelude.{◌≡◌, ℕ, ◌+◌, ◌*◌, ◌<◌, �
 ghost use Rattle.planning.specs.Labels.{stop_at};
 ghost use Rattle.planning.specs.Moves.{label_at};
 ghost use Rattle.planner.specs.Outcome.{Searched};
-ghost use Rattle.planner.specs.History.{span as Span-of};
+ghost use Rattle.planner.specs.History.{span as span_between};
 ghost use Rattle.planner.specs.Plans.{Solved, OutputLeft, Planned, Left, Sized};
 ghost use Rattle.planner.specs.Toured.{stops_of};
 
@@ -27,11 +27,11 @@ fn conclude<B: RuleBook>(
     span: usize,
     output: &mut [u8],
 ) -> Result<usize, Refusal>
-    requires searched { Searched B.RuleBook.names B.RuleBook.after Row-as-Figures.better stops.now (B.RuleBook.figures card.now.book) card.now.now width span trail.now outcome }
+    requires searched { Searched B.RuleBook.names B.RuleBook.after B.Row.Figures.better stops.now (B.RuleBook.figures card.now.book) card.now.now width span trail.now outcome }
     requires trail_within { span * width ≤ length trail.now }
     requires room { span ≤ length output.old }
     requires horizon { span ≤ 2688 }
-    ensures value { Solved B.RuleBook.names B.RuleBook.after Row-as-Figures.better stops.now (B.RuleBook.figures card.entry.now.book) card.entry.now.now width span output.new result }
+    ensures value { Solved B.RuleBook.names B.RuleBook.after B.Row.Figures.better stops.now (B.RuleBook.figures card.entry.now.book) card.entry.now.now width span output.new result }
     ensures behind { OutputLeft card.entry.now.now result output.old output.new }
 {
     match outcome {
@@ -47,7 +47,7 @@ fn conclude<B: RuleBook>(
 // The quarters from `begin` to the last possible end of the tour.
 fn span_of(stops: &[Stop], begin: usize) -> usize
     requires { 0 < length stops.now }
-    ensures { result ≡ Span-of stops.now begin }
+    ensures { result ≡ span_between stops.now begin }
 {
     let last = stop_at(stops, stops.len() - 1);
     (usize::from(last.closes) + usize::from(last.service)).saturating_sub(begin)

@@ -1,4 +1,6 @@
 // Runs lists of calls on new cards and tours, and prints a title for each list and a line for each answer.
+#![tactic(auto)]
+
 mod answers;
 mod carrier;
 mod cases;

@@ -1,4 +1,6 @@
 // Stops of a tour, and the labels that a search for a schedule keeps.
+#![tactic(auto)]
+
 mod cover;
 
 // A stop: the driving before it, the quarters of its service, and from when to when the service may begin.

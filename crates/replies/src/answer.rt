@@ -22,7 +22,7 @@ fn reply_under<B: RuleBook>(
     book: &B,
     readings: &[Result<Line, Refusal>],
 ) -> Result<Vec<u8>, AllocError>
-    ensures { IfOk result (λ reply. ((answers : List Given) × Kept B.RuleBook.names B.RuleBook.after Row-as-Figures.better (B.RuleBook.opened (B.RuleBook.figures book.now)) (B.RuleBook.lawful (B.RuleBook.figures book.now)) fresh (calls_read readings.now) answers × Replied 1 readings.now answers reply.items)) }
+    ensures { IfOk result (λ reply. ((answers : List Given) × Kept B.RuleBook.names B.RuleBook.after B.Row.Figures.better (B.RuleBook.opened (B.RuleBook.figures book.now)) (B.RuleBook.lawful (B.RuleBook.figures book.now)) fresh (calls_read readings.now) answers × Replied 1 readings.now answers reply.items)) }
 {
     let calls = calls_of(heap, readings)?;
     let answers = run_calls(heap, book, calls.as_slice())?;

@@ -1,4 +1,6 @@
 // The reply to a text: the answers to its lines, spelled.
+#![tactic(auto)]
+
 pub mod answer;
 pub mod printing;
 mod reply;

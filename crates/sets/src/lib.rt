@@ -1,4 +1,6 @@
 // The named rule sets, the judge at one of them, and the worked cases.
+#![tactic(auto)]
+
 ghost use Rattle.std.specs.Prelude.{◌≡◌, MatchOption};
 ghost use Rattle.sets.specs.Names.{set_name, sentences};
 ghost use Rattle.sets.specs.Verdicts.{JudgedBy};

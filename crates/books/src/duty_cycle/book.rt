@@ -1,6 +1,6 @@
 // What the cycle allows, and how it goes on.
 ghost use Rattle.std.specs.Prelude.{◌≡◌, [], ◌∷◌, Decides};
-ghost use Rattle.books.specs.DutyCycle.{CycleSound, NoWorseCycle, cycle_row, given_cycle, opened_cycle, cycle_names, next_cycle, cycle_after, fits_cycle, remade_cycle};
+ghost use Rattle.books.specs.DutyCycle.{CycleSound, NoWorseCycle, cycle_row, given_cycle, opened_cycle, cycle_names, next_cycle, cycle_after, fits_cycle, remade_cycle, same_cycle};
 ghost use Rattle.books.specs.Sets.{Lawful, cycle_rules};
 ghost use Rattle.std.specs.Cmp.Rules.{comparing};
 ghost use Rattle.std.proofs.Common.{rules, arith};
@@ -35,11 +35,14 @@ pub struct CycleRow {
 
 // Written out, since a derived `==` says nothing of an array.
 impl PartialEq for CycleRow {
-    ghost equals = { λ a b r. Decides r (a ≡ b) };
+    ghost eq = { same_cycle };
 
-    ghost laws = { Keys.partial_equiv_from_equiv (Prim.search (comparing, rules)) };
+    ghost laws = { Prim.search (comparing, rules) depth 9 };
 
-    fn eq(&self, other: &CycleRow) -> bool {
+    fn eq(&self, other: &CycleRow) -> bool
+        ensures value { result ≡ same_cycle self.now other.now }
+        ensures same { Decides result (self.now ≡ other.now) }
+    {
         self.days == other.days
             && self.limit == other.limit
             && self.restart == other.restart
@@ -49,7 +52,7 @@ impl PartialEq for CycleRow {
 }
 
 impl Eq for CycleRow {
-    ghost laws = { Prim.search (comparing, rules) };
+    ghost laws = { Prim.search (comparing, rules) depth 9 };
 }
 
 // Whether the row is a state's.

@@ -9,11 +9,11 @@ use Rattle.frontier.proofs.passes.keep.Goals as goal
 order : (g : given.Over) → Preorder g.T.Covers.covers
 order g = record { reflexive = g.met.T.Covers.reflexive; transitive = g.met.T.Covers.transitive }
 
-pub returns-then-is-covered : goal.returns-then-is-covered
-returns-then-is-covered g c =
+pub returns-then-is_covered : goal.returns-then-is_covered
+returns-then-is_covered g c =
     let xs = c.args.places.now in
     let value = offered-covered g.T.Covers.covers c.args.x xs c.args.count c.min-count.result c.min-count.ensures
-    (c.is-covered.ensures.0 c.if-is-covered.true) in
+    (c.is_covered.ensures.0 c.if-is_covered.true) in
     record {
       value = value;
       smallest = λ seen. offered_smallest (order g) (take c.args.count xs) seen _ c.args.x value;
@@ -32,7 +32,7 @@ returns-then-full g c =
       value = (
         refl,
         offered_long g.T.Covers.covers c.args.x xs c.args.count c.min-count.result c.min-count.ensures
-            (not_from_Decides _ c.is-covered.ensures c.if-is-covered.false)
+            (not_from_Decides _ c.is_covered.ensures c.if-is_covered.false)
             ys c.compact-left.result c.compact-left.ensures.left full long,
       );
       smallest = tt;
@@ -46,7 +46,7 @@ returns g c =
     let ys = c.compact-left.new.places in
     let room : c.compact-left.result < length ys = omega arith in
     let value = offered-last g.T.Covers.covers c.args.x xs c.args.count c.min-count.result c.min-count.ensures
-    (not_from_Decides _ c.is-covered.ensures c.if-is-covered.false)
+    (not_from_Decides _ c.is_covered.ensures c.if-is_covered.false)
     ys c.compact-left.result c.compact-left.ensures.left room in
     record {
       value = value;

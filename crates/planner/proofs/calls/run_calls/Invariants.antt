@@ -11,4 +11,4 @@ abbrev pub invariant-loop-call : goal.invariant-loop-call
 invariant-loop-call g l =
     (h : History)
     × StandsFor g.B.RuleBook.names g.B.RuleBook.after (g.B.RuleBook.opened (g.B.RuleBook.figures l.book)) (g.B.RuleBook.figures l.card.book) l.card.now (stops_of l.tour) h
-    × ((rest : List Answer) → Kept g.B.RuleBook.names g.B.RuleBook.after g.Row.Figures.better (g.B.RuleBook.opened (g.B.RuleBook.figures l.book)) (g.B.RuleBook.lawful (g.B.RuleBook.figures l.book)) h (drop l.call-index l.calls) rest → Kept g.B.RuleBook.names g.B.RuleBook.after g.Row.Figures.better (g.B.RuleBook.opened (g.B.RuleBook.figures l.book)) (g.B.RuleBook.lawful (g.B.RuleBook.figures l.book)) fresh l.calls (vec_items l.answers ++ rest))
+    × ((rest : List Answer) → Kept g.B.RuleBook.names g.B.RuleBook.after g.B.Row.Figures.better (g.B.RuleBook.opened (g.B.RuleBook.figures l.book)) (g.B.RuleBook.lawful (g.B.RuleBook.figures l.book)) h (drop l.call-index l.calls) rest → Kept g.B.RuleBook.names g.B.RuleBook.after g.B.Row.Figures.better (g.B.RuleBook.opened (g.B.RuleBook.figures l.book)) (g.B.RuleBook.lawful (g.B.RuleBook.figures l.book)) fresh l.calls (vec_items l.answers ++ rest))

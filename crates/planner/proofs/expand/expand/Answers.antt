@@ -13,23 +13,23 @@ loop-j-init g c = (
   refl,
 )
 
-pub offer-live-requires : goal.offer-live-requires
-offer-live-requires g c =
+pub offer_live-requires : goal.offer_live-requires
+offer_live-requires g c =
     omega (arith, c.loop-j.invariant.0.few, c.loop-j.invariant.0.long, ap length c.new-frontier.ensures.same)
 
-pub offer-live-requires-in-loop-j : goal.offer-live-requires-in-loop-j
-offer-live-requires-in-loop-j g c =
-    omega (arith, c.loop-j.invariant.0.few, c.loop-j.invariant.0.long, ap length c.new-frontier.ensures.same, c.offer-live.ensures.more, c.offer-live.ensures.room)
+pub offer_live-requires-in-loop-j : goal.offer_live-requires-in-loop-j
+offer_live-requires-in-loop-j g c =
+    omega (arith, c.loop-j.invariant.0.few, c.loop-j.invariant.0.long, ap length c.new-frontier.ensures.same, c.offer_live.ensures.more, c.offer_live.ensures.room)
 
 pub loop-j-preserved : goal.loop-j-preserved
 loop-j-preserved g c = (
-  expanded_more g.B.RuleBook.names g.B.RuleBook.after c.args.stops.now c.args.q g.Row.Figures.better c.args.front.now _
-      c.loop-j.frontier c.offer-live.new.frontier c.offer-live-in-loop-j.new.frontier c.loop-j.j c.index-front-j.result
-      c.note.result c.note-in-loop-j.result c.second-duty-duty.result c.attempt-rested.result c.attempt-moved.result
-      c.loop-j.invariant.0 (omega arith) c.index-front-j.is c.note.ensures c.attempt-rested.ensures c.second-duty-duty.ensures
-      c.note-in-loop-j.ensures c.attempt-moved.ensures c.offer-live.ensures.smallest c.offer-live.ensures.more c.offer-live.ensures.room
-      c.offer-live-in-loop-j.ensures.smallest c.offer-live-in-loop-j.ensures.more c.offer-live-in-loop-j.ensures.room,
-  c.offer-live-in-loop-j.ensures.lender ∙ c.offer-live.ensures.lender ∙ c.loop-j.invariant.1,
+  expanded_more g.B.RuleBook.names g.B.RuleBook.after c.args.stops.now c.args.q g.B.Row.Figures.better c.args.front.now _
+      c.loop-j.frontier c.offer_live.new.frontier c.offer_live-in-loop-j.new.frontier c.loop-j.j c.index-front-j.result
+      c.note.result c.note-in-loop-j.result c.second_duty-duty.result c.attempt-rested.result c.attempt-moved.result
+      c.loop-j.invariant.0 (omega arith) c.index-front-j.is c.note.ensures c.attempt-rested.ensures c.second_duty-duty.ensures
+      c.note-in-loop-j.ensures c.attempt-moved.ensures c.offer_live.ensures.smallest c.offer_live.ensures.more c.offer_live.ensures.room
+      c.offer_live-in-loop-j.ensures.smallest c.offer_live-in-loop-j.ensures.more c.offer_live-in-loop-j.ensures.room,
+  c.offer_live-in-loop-j.ensures.lender ∙ c.offer_live.ensures.lender ∙ c.loop-j.invariant.1,
 )
 
 pub returns : goal.returns
@@ -37,7 +37,7 @@ returns g c =
     let f = c.loop-j.frontier in
     let end : c.loop-j.j ≡ c.args.count = omega arith in
     record {
-      smallest = expanded-all g.B.RuleBook.names g.B.RuleBook.after c.args.stops.now c.args.q g.Row.Figures.better c.args.front.now _
+      smallest = expanded-all g.B.RuleBook.names g.B.RuleBook.after c.args.stops.now c.args.q g.B.Row.Figures.better c.args.front.now _
           f c.loop-j.j c.args.count c.count.result _ c.loop-j.invariant.0 end c.count.ensures (search rules);
       within = front_fits f _ _ c.count.ensures (search rules);
       few = omega (arith, c.loop-j.invariant.0.few, c.count.ensures, end);

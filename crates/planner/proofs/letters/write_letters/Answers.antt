@@ -5,16 +5,16 @@ use Rattle.planner.proofs.letters.write_letters.Goals as goal
 
 pub loop-i-init : goal.loop-i-init
 loop-i-init c =
-    writing-first c.args.trail.now c.args.width c.args.t c.args.place c.args.output.now c.letter.result c.letter.ensures c.requires.led c.requires.place-within c.requires.room
+    writing-first c.args.trail.now c.args.width c.args.t c.args.place c.args.output.now c.letter.result c.letter.ensures c.requires.led c.requires.place_within c.requires.room
 
-pub offset-bounds-trail-i : goal.offset-bounds-trail-i
-offset-bounds-trail-i c =
+pub offset_bounds-trail-i : goal.offset_bounds-trail-i
+offset_bounds-trail-i c =
     let within : (c.loop-i.i - 1) * c.args.width + c.loop-i.label < length c.args.trail.now =
-    reads-within c.args.trail.now c.args.width c.args.t c.loop-i.i c.loop-i.label c.loop-i-test.true (omega arith) c.loop-i.invariant.below c.requires.trail-within in
+    reads-within c.args.trail.now c.args.width c.args.t c.loop-i.i c.loop-i.label c.loop-i-test.true (omega arith) c.loop-i.invariant.below c.requires.trail_within in
     search rules
 
 pub bounds-trail-i : goal.bounds-trail-i
-bounds-trail-i c = reads-within c.args.trail.now c.args.width c.args.t c.loop-i.i c.loop-i.label c.loop-i-test.true (omega arith) c.loop-i.invariant.below c.requires.trail-within
+bounds-trail-i c = reads-within c.args.trail.now c.args.width c.args.t c.loop-i.i c.loop-i.label c.loop-i-test.true (omega arith) c.loop-i.invariant.below c.requires.trail_within
 
 pub loop-i-preserved : goal.loop-i-preserved
 loop-i-preserved c =

@@ -4,13 +4,13 @@ use Rattle.std.proofs.lemmas.Bool.{cond-true}
 use Rattle.planner.specs.Candidates.{alive}
 use Rattle.planner.proofs.search.place_first.Goals as goal
 
-pub returns-then-is-alive : goal.returns-then-is-alive
-returns-then-is-alive g c =
+pub returns-then-is_alive : goal.returns-then-is_alive
+returns-then-is_alive g c =
     let within : 0 < length c.args.front.now = omega arith in
     record {
       labels =
-          take_more_set c.args.front.now 0 c.first-label-label.result within
-          ∙ ap (λ a. a ∷ []) c.first-label-label.ensures
-          ∙ sym (cond-true _ _ _ (ap (alive c.args.stops.now c.args.begin) (sym c.first-label-label.ensures) ∙ sym c.is-alive.ensures ∙ c.if-is-alive.true));
+          take_more_set c.args.front.now 0 c.first_label-label.result within
+          ∙ ap (λ a. a ∷ []) c.first_label-label.ensures
+          ∙ sym (cond-true _ _ _ (ap (alive c.args.stops.now c.args.begin) (sym c.first_label-label.ensures) ∙ sym c.is_alive.ensures ∙ c.if-is_alive.true));
       few = lit≤ tt;
     }

@@ -4,7 +4,7 @@ use Rattle.planner.proofs.card.recording.carry.Goals as goal
 
 pub loop-passed-preserved : goal.loop-passed-preserved
 loop-passed-preserved g c =
-    carry_more g.B.RuleBook.names g.B.RuleBook.after _ c.args.from c.args.duty c.loop-passed.passed _ _ (omega arith) c.loop-passed.invariant c.in-default.ensures c.step.ensures
+    carry_more g.B.RuleBook.names g.B.RuleBook.after _ c.args.from c.args.duty c.loop-passed.passed _ _ (omega arith) c.loop-passed.invariant c.in_default.ensures c.step.ensures
 
 pub returns-in-Some : goal.returns-in-Some
 returns-in-Some g c =
