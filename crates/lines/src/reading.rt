@@ -80,20 +80,20 @@ fn read_rules(place: usize, name: &[u8]) -> Result<Line, Refusal>
 pub fn read_line(place: usize, line: &[u8]) -> Result<Line, Refusal>
     ensures { Reads place line.now result }
 {
-    if line == b"drop" {
+    if line == b"drop".as_slice() {
         return Ok(Line::Call(Call::Drop));
     }
-    if line == b"plan" {
+    if line == b"plan".as_slice() {
         return Ok(Line::Call(plan_call()));
     }
     let Some((kind, fields)) = cut_at(line, b',') else {
         return Err(Refusal::Spelling);
     };
-    if kind == b"done" {
+    if kind == b"done".as_slice() {
         read_done(fields)
-    } else if kind == b"stop" {
+    } else if kind == b"stop".as_slice() {
         read_stop(fields)
-    } else if kind == b"rules" {
+    } else if kind == b"rules".as_slice() {
         read_rules(place, fields)
     } else {
         Err(Refusal::Spelling)

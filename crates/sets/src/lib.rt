@@ -43,11 +43,11 @@ impl RuleSet {
     pub fn from_name(name: &[u8]) -> Option<RuleSet>
         ensures { MatchOption result ((set : RuleSet) → name.now ≡ set_name set → ⊥) (λ set. name.now ≡ set_name set) }
     {
-        if name == b"us7" {
+        if name == b"us7".as_slice() {
             Some(RuleSet::Us7)
-        } else if name == b"us8" {
+        } else if name == b"us8".as_slice() {
             Some(RuleSet::Us8)
-        } else if name == b"eu" {
+        } else if name == b"eu".as_slice() {
             Some(RuleSet::Eu)
         } else {
             None

@@ -5,8 +5,8 @@ use Rattle.frontier_pairs.proofs.Chosen.{front, front_fits}
 use Rattle.frontier_pairs.proofs.choice.choose.Goals as goal
 
 pub returns : goal.returns
-returns c = let f = c.offer-all.new.frontier in record {
+returns c = let f = c.offer_all.new.frontier in record {
   smallest = subst (λ l. SmallestCover NoLarger l c.args.pairs.now) (sym (front f _ _ c.count.ensures (search rules)))
-      (c.in-ok-offer-all.ensures.smallest _ c.new-frontier.ensures.smallest);
+      (c.in_ok-offer_all.ensures.smallest _ c.new-frontier.ensures.smallest);
   within = front_fits f _ _ c.count.ensures (search rules);
 }

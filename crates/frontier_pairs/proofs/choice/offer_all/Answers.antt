@@ -12,8 +12,8 @@ loop-pair-preserved c =
     let i = c.loop-pair.pair-index in (
       λ seen s. subst (SmallestCover NoLarger (kept c.offer.new.self))
           (one_more seen pairs i _ c.loop-pair-test.true)
-          (c.in-ok-offer.ensures.smallest (seen ++ take i pairs) (c.loop-pair.invariant.0 seen s)),
-      c.in-ok-offer.ensures.lender ∙ c.loop-pair.invariant.1,
+          (c.in_ok-offer.ensures.smallest (seen ++ take i pairs) (c.loop-pair.invariant.0 seen s)),
+      c.in_ok-offer.ensures.lender ∙ c.loop-pair.invariant.1,
     )
 
 pub returns : goal.returns

@@ -4,7 +4,7 @@ use Rattle.frontier_pairs.proofs.input.pair_of.Goals as goal
 
 pub returns : goal.returns
 returns c =
-    let before = c.in-ok-before.before in
-    let after = c.in-ok-before.after in
-    let parts = split_parts 32 c.args.line.now (Some (before, after)) c.in-ok-before.ensures.cases (lit< tt) in
-    (before.now, after.now, parts.0, c.in-ok-first.ensures, c.in-ok-second.ensures)
+    let before = c.in_ok-before.before in
+    let after = c.in_ok-before.after in
+    let parts = split_parts 32 c.args.line.now (Some (before, after)) c.in_ok-before.ensures.cases (lit< tt) in
+    (before.now, after.now, parts.0, c.in_ok-first.ensures, c.in_ok-second.ensures)

@@ -4,59 +4,59 @@ use Rattle.fields.specs.Numbers.{Spells}
 use Rattle.lines.proofs.Spellings.{stop_reads, not_stop}
 use Rattle.lines.proofs.reading.read_stop.Goals as goal
 
-pub returns-in-default : goal.returns-in-default
-returns-in-default c =
-    λ place. (refl, not_stop place c.args.fields.now (λ drive service opens closes d s o cl e. c.in-default.ensures drive _ d e))
+pub returns-in_default : goal.returns-in_default
+returns-in_default c =
+    λ place. (refl, not_stop place c.args.fields.now (λ drive service opens closes d s o cl e. c.in_default.ensures drive _ d e))
 
-pub returns-in-default-leading-number : goal.returns-in-default-leading-number
-returns-in-default-leading-number c =
+pub returns-in_default-leading_number : goal.returns-in_default-leading_number
+returns-in_default-leading_number c =
     λ place. (
       refl,
       not_stop place c.args.fields.now
           (λ drive service opens closes d s o cl e.
           let one = c.in-Some.ensures in
           let first = led_once c.in-Some.drive drive _ _ one.0 d (sym one.1 ∙ e) in
-          c.in-default-leading-number.ensures service _ s first.1),
+          c.in_default-leading_number.ensures service _ s first.1),
     )
 
-pub returns-in-default-leading-number-2 : goal.returns-in-default-leading-number-2
-returns-in-default-leading-number-2 c =
+pub returns-in_default-leading_number-2 : goal.returns-in_default-leading_number-2
+returns-in_default-leading_number-2 c =
     λ place. (
       refl,
       not_stop place c.args.fields.now
           (λ drive service opens closes d s o cl e.
           let one = c.in-Some.ensures in
-          let two = c.in-Some-leading-number.ensures in
+          let two = c.in-Some-leading_number.ensures in
           let first = led_once c.in-Some.drive drive _ _ one.0 d (sym one.1 ∙ e) in
-          let second = led_once c.in-Some-leading-number.service service _ _ two.0 s (sym two.1 ∙ first.1) in
-          c.in-default-leading-number-2.ensures opens _ o second.1),
+          let second = led_once c.in-Some-leading_number.service service _ _ two.0 s (sym two.1 ∙ first.1) in
+          c.in_default-leading_number-2.ensures opens _ o second.1),
     )
 
-pub returns-in-default-read-number : goal.returns-in-default-read-number
-returns-in-default-read-number c =
+pub returns-in_default-read_number : goal.returns-in_default-read_number
+returns-in_default-read_number c =
     λ place. (
       refl,
       not_stop place c.args.fields.now
           (λ drive service opens closes d s o cl e.
           let one = c.in-Some.ensures in
-          let two = c.in-Some-leading-number.ensures in
-          let three = c.in-Some-leading-number-2.ensures in
+          let two = c.in-Some-leading_number.ensures in
+          let three = c.in-Some-leading_number-2.ensures in
           let first = led_once c.in-Some.drive drive _ _ one.0 d (sym one.1 ∙ e) in
-          let second = led_once c.in-Some-leading-number.service service _ _ two.0 s (sym two.1 ∙ first.1) in
-          let third = led_once c.in-Some-leading-number-2.opens opens _ _ three.0 o (sym three.1 ∙ second.1) in
-          c.in-default-read-number.ensures.value closes (subst (λ f. Spells f closes) (sym third.1) (decimal_spells closes cl))),
+          let second = led_once c.in-Some-leading_number.service service _ _ two.0 s (sym two.1 ∙ first.1) in
+          let third = led_once c.in-Some-leading_number-2.opens opens _ _ three.0 o (sym three.1 ∙ second.1) in
+          c.in_default-read_number.ensures.value closes (subst (λ f. Spells f closes) (sym third.1) (decimal_spells closes cl))),
     )
 
 pub returns : goal.returns
 returns c =
     λ place.
     let one = c.in-Some.ensures in
-    let two = c.in-Some-leading-number.ensures in
-    let three = c.in-Some-leading-number-2.ensures in
-    let four = c.in-Some-read-number.ensures in
+    let two = c.in-Some-leading_number.ensures in
+    let three = c.in-Some-leading_number-2.ensures in
+    let four = c.in-Some-read_number.ensures in
     let drive = decimal c.in-Some.drive in
-    let service = decimal c.in-Some-leading-number.service in
-    let opens = decimal c.in-Some-leading-number-2.opens in
-    stop_reads place c.args.fields.now c.in-Some.drive c.in-Some-leading-number.service c.in-Some-leading-number-2.opens c.in-Some-read-number.closes one.0 two.0 three.0 four.bound
+    let service = decimal c.in-Some-leading_number.service in
+    let opens = decimal c.in-Some-leading_number-2.opens in
+    stop_reads place c.args.fields.now c.in-Some.drive c.in-Some-leading_number.service c.in-Some-leading_number-2.opens c.in-Some-read_number.closes one.0 two.0 three.0 four.bound
     (one.1
     ∙ ap (λ xs. drive ++ 44 ∷ xs) (two.1 ∙ ap (λ xs. service ++ 44 ∷ xs) (three.1 ∙ ap (λ xs. opens ++ 44 ∷ xs) (spells_decimal _ _ four.value))))

@@ -6,7 +6,7 @@ use Rattle.planner.specs.declared.call.Call.{Call}
 use Rattle.lines.specs.declared.line.Line.TheVariants as line
 use Rattle.lines.specs.Texts.{calls_read, call_read}
 use Rattle.lines.proofs.whole.calls_of.Goals as goal
-use Rattle.lines.proofs.whole.calls_of.Goals.{in-Some+in-ok-push, in-default}
+use Rattle.lines.proofs.whole.calls_of.Goals.{in-Some+in_ok-push, in_default}
 
 -- one call more, or none
 step : (before after rest all : List Call) (o : Option Call) → after ≡ before ++ option_to_list o → before ++ (option_to_list o ++ rest) ≡ all → after ++ rest ≡ all
@@ -19,11 +19,11 @@ loop-reading-preserved c =
     let more = at_drop_more calls_read readings i (Ok (line.Rules set.Us7)) c.loop-reading-test.true in
     let rest = calls_read (drop (i + 1) readings) in
     let before = vec_items c.loop-reading.calls in
-    let split : before ++ (option_to_list c.call-of.result ++ rest) ≡ calls_read readings = ap (λ o. before ++ (option_to_list o ++ rest)) c.call-of.ensures ∙ ap (λ xs. before ++ xs) (sym more) ∙ c.loop-reading.invariant in
-    step before (vec_items c.match-call-of.calls) rest (calls_read readings) c.call-of.result
-    (elim c.match-call-of.branch [
-      | in-Some+in-ok-push w ↦ ap vec_items w.calls-is ∙ w.in-ok-push.ensures.items ∙ ap (λ o. before ++ option_to_list o) (sym w.in-Some.is)
-      | in-default w ↦ ap vec_items w.calls-is ∙ sym (append-nil before) ∙ ap (λ o. before ++ option_to_list o) (sym w.in-default.is)
+    let split : before ++ (option_to_list c.call_of.result ++ rest) ≡ calls_read readings = ap (λ o. before ++ (option_to_list o ++ rest)) c.call_of.ensures ∙ ap (λ xs. before ++ xs) (sym more) ∙ c.loop-reading.invariant in
+    step before (vec_items c.match-call_of.calls) rest (calls_read readings) c.call_of.result
+    (elim c.match-call_of.branch [
+      | in-Some+in_ok-push w ↦ ap vec_items w.calls-is ∙ w.in_ok-push.ensures.items ∙ ap (λ o. before ++ option_to_list o) (sym w.in-Some.is)
+      | in_default w ↦ ap vec_items w.calls-is ∙ sym (append-nil before) ∙ ap (λ o. before ++ option_to_list o) (sym w.in_default.is)
     ])
     split
 

@@ -10,22 +10,22 @@ pub loop-rest-smaller : goal.loop-rest-smaller
 loop-rest-smaller c =
     let nonempty = eqb-false (length c.loop-rest.rest.now) 0 (sym c.loop-rest-test.ensures) in
     let some : 0 < length c.loop-rest.rest.now = omega arith in
-    rest_shorter c.loop-rest.rest.now c.first-line.result.0.now c.first-line.result.1.now c.first-line.ensures some
+    rest_shorter c.loop-rest.rest.now c.first_line.result.0.now c.first_line.result.1.now c.first_line.ensures some
 
 pub loop-rest-preserved : goal.loop-rest-preserved
 loop-rest-preserved c =
     let rest = c.loop-rest.rest.now in
-    let after = c.first-line.result.1.now in
+    let after = c.first_line.result.1.now in
     let nonempty = eqb-false (length rest) 0 (sym c.loop-rest-test.ensures) in
     let some : 0 < length rest = omega arith in
-    let shorter = rest_shorter rest c.first-line.result.0.now after c.first-line.ensures some in
-    let count : vec_len c.push.new.self ≡ vec_len c.loop-rest.readings + 1 = c.in-ok-push.ensures.len in (
+    let shorter = rest_shorter rest c.first_line.result.0.now after c.first_line.ensures some in
+    let count : vec_len c.push.new.self ≡ vec_len c.loop-rest.readings + 1 = c.in_ok-push.ensures.len in (
       omega (arith, c.loop-rest.invariant.0),
       λ more k.
-          let pushed : vec_items c.push.new.self ++ more ≡ vec_items c.loop-rest.readings ++ (c.read-line.result ∷ more) = ap (λ xs. xs ++ more) c.in-ok-push.ensures.items ∙ append_assoc (vec_items c.loop-rest.readings) (c.read-line.result ∷ []) more in
+          let pushed : vec_items c.push.new.self ++ more ≡ vec_items c.loop-rest.readings ++ (c.read_line.result ∷ more) = ap (λ xs. xs ++ more) c.in_ok-push.ensures.items ∙ append_assoc (vec_items c.loop-rest.readings) (c.read_line.result ∷ []) more in
           subst (Read_from 1 c.args.text.now) (sym pushed)
-          (c.loop-rest.invariant.1 (c.read-line.result ∷ more)
-          (c.first-line.result.0.now, after, some, c.first-line.ensures, subst (λ n. Reads (n + 1) c.first-line.result.0.now c.read-line.result) c.len-place.ensures c.read-line.ensures, subst (λ n. Read_from (n + 1) after more) count k)),
+          (c.loop-rest.invariant.1 (c.read_line.result ∷ more)
+          (c.first_line.result.0.now, after, some, c.first_line.ensures, subst (λ n. Reads (n + 1) c.first_line.result.0.now c.read_line.result) c.len-place.ensures c.read_line.ensures, subst (λ n. Read_from (n + 1) after more) count k)),
     )
 
 pub returns : goal.returns
