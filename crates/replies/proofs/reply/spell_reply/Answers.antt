@@ -8,8 +8,8 @@ use Rattle.replies.specs.Replies.{Replied}
 use Rattle.replies.proofs.Answering.{calls_more, replied_more}
 use Rattle.replies.proofs.reply.spell_reply.Goals as goal
 
-pub write-line-requires : goal.write-line-requires
-write-line-requires c =
+pub write_line-requires : goal.write_line-requires
+write_line-requires c =
     omega (arith, c.loop-i.invariant.0, calls_more c.args.readings.now c.loop-i.i (Ok (line.Rules set.Us7)) c.loop-i-test.true)
 
 pub loop-i-preserved : goal.loop-i-preserved
@@ -17,13 +17,13 @@ loop-i-preserved c =
     let readings = c.args.readings.now in
     let answers = c.args.answers.now in
     let i = c.loop-i.i in
-    let written = c.in-ok-next.ensures in
+    let written = c.in_ok-next.ensures in
     let lines = written.1.0 in (
       omega (arith, c.loop-i.invariant.0, calls_more readings i (Ok (line.Rules set.Us7)) c.loop-i-test.true, written.0),
       λ more k.
-          let front : vec_items c.write-line.new.reply ++ more ≡ vec_items c.loop-i.reply ++ (lines ++ more) = ap (λ xs. xs ++ more) written.1.2 ∙ append_assoc (vec_items c.loop-i.reply) lines more in
+          let front : vec_items c.write_line.new.reply ++ more ≡ vec_items c.loop-i.reply ++ (lines ++ more) = ap (λ xs. xs ++ more) written.1.2 ∙ append_assoc (vec_items c.loop-i.reply) lines more in
           subst (Replied 1 readings answers) (sym front)
-          (c.loop-i.invariant.1 (lines ++ more) (replied_more (i + 1) readings i (Ok (line.Rules set.Us7)) (drop c.loop-i.next answers) (drop c.in-ok-next.next answers) lines more c.loop-i-test.true written.1.1 k)),
+          (c.loop-i.invariant.1 (lines ++ more) (replied_more (i + 1) readings i (Ok (line.Rules set.Us7)) (drop c.loop-i.next answers) (drop c.in_ok-next.next answers) lines more c.loop-i-test.true written.1.1 k)),
     )
 
 pub returns : goal.returns

@@ -9,8 +9,8 @@ returns-in-Breach c =
     (λ s p. p ∙ refused_breach c.args.place c.number-number.result c.args.why c.in-Breach.field-0 c.number-number.ensures c.in-Breach.is)
     c.format.ensures.ok
 
-pub returns-in-default : goal.returns-in-default
-returns-in-default c =
-    IfOk-weaker c.format-in-default.result _ _
-    (λ s p. p ∙ refused_plainly c.args.place c.number-number.result c.args.why c.number-number.ensures c.in-default.not-Breach)
-    c.format-in-default.ensures.ok
+pub returns-in_default : goal.returns-in_default
+returns-in_default c =
+    IfOk-weaker c.format-in_default.result _ _
+    (λ s p. p ∙ refused_plainly c.args.place c.number-number.result c.args.why c.number-number.ensures c.in_default.not-Breach)
+    c.format-in_default.ensures.ok

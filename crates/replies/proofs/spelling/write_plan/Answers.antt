@@ -8,9 +8,9 @@ pub returns : goal.returns
 returns c =
     let entry = vec_items c.args.reply.now in (
       _,
-      (vec_items c.in-ok-runs.runs, c.in-ok-runs.ensures, refl),
-      three_pieces entry (vec_items c.extend-from-slice.new.self) (vec_items c.write-runs.new.reply) (vec_items c.extend-from-slice-2.new.self) _ (flat_map run_line (vec_items c.in-ok-runs.runs)) _
-          (c.in-ok-extend-from-slice.ensures.items ∙ ap (λ xs. entry ++ xs) (c.as-bytes.ensures.value ∙ c.in-ok-head.ensures.ok))
-          (c.in-ok-write-runs.ensures ∙ ap (λ xs. vec_items c.extend-from-slice.new.self ++ flat_map run_line xs) c.as-slice.ensures.value)
-          (c.in-ok-extend-from-slice-2.ensures.items ∙ ap (λ xs. vec_items c.write-runs.new.reply ++ xs) (c.as-bytes-2.ensures.value ∙ c.in-ok-tail.ensures.ok)),
+      (vec_items c.in_ok-runs.runs, c.in_ok-runs.ensures, refl),
+      three_pieces entry (vec_items c.extend_from_slice.new.self) (vec_items c.write_runs.new.reply) (vec_items c.extend_from_slice-2.new.self) _ (flat_map run_line (vec_items c.in_ok-runs.runs)) _
+          (c.in_ok-extend_from_slice.ensures.items ∙ ap (λ xs. entry ++ xs) (c.as_bytes.ensures.value ∙ c.in_ok-head.ensures.ok))
+          (c.in_ok-write_runs.ensures ∙ ap (λ xs. vec_items c.extend_from_slice.new.self ++ flat_map run_line xs) c.as_slice.ensures.value)
+          (c.in_ok-extend_from_slice-2.ensures.items ∙ ap (λ xs. vec_items c.write_runs.new.reply ++ xs) (c.as_bytes-2.ensures.value ∙ c.in_ok-tail.ensures.ok)),
     )

@@ -5,8 +5,8 @@ use Rattle.replies.proofs.spelling.write_run.Goals as goal
 pub returns : goal.returns
 returns c =
     let entry = vec_items c.args.reply.now in
-    three_pieces entry (vec_items c.extend-from-slice.new.self) (vec_items c.push.new.self) (vec_items c.extend-from-slice-2.new.self) _ (c.args.run.letter ∷ []) _
-    (c.in-ok-extend-from-slice.ensures.items ∙ ap (λ xs. entry ++ xs) (c.as-bytes.ensures.value ∙ c.in-ok-before.ensures.ok))
-    c.in-ok-push.ensures.items
-    (c.in-ok-extend-from-slice-2.ensures.items ∙ ap (λ xs. vec_items c.push.new.self ++ xs) (c.as-bytes-2.ensures.value ∙ c.in-ok-after.ensures.ok))
+    three_pieces entry (vec_items c.extend_from_slice.new.self) (vec_items c.push.new.self) (vec_items c.extend_from_slice-2.new.self) _ (c.args.run.letter ∷ []) _
+    (c.in_ok-extend_from_slice.ensures.items ∙ ap (λ xs. entry ++ xs) (c.as_bytes.ensures.value ∙ c.in_ok-before.ensures.ok))
+    c.in_ok-push.ensures.items
+    (c.in_ok-extend_from_slice-2.ensures.items ∙ ap (λ xs. vec_items c.push.new.self ++ xs) (c.as_bytes-2.ensures.value ∙ c.in_ok-after.ensures.ok))
     ∙ ap (λ xs. entry ++ xs) (run_pieces c.args.run)

@@ -9,9 +9,9 @@ pub loop-run-preserved : goal.loop-run-preserved
 loop-run-preserved c =
     let entry = vec_items c.args.reply.now in
     let runs = c.args.runs.now in
-    let i = c.loop-run.run_index in
+    let i = c.loop-run.run-index in
     let none : Run = record { first = 0; letter = 0; count = 0 } in
-    c.in-ok-write-run.ensures
+    c.in_ok-write_run.ensures
     ∙ ap (λ xs. xs ++ run_line (get_or runs i none)) c.loop-run.invariant
     ∙ flat_map_more run_line entry (take i runs) (get_or runs i none)
     ∙ ap (λ xs. entry ++ flat_map run_line xs) (sym (take_more runs i none c.loop-run-test.true))
