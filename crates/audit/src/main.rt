@@ -4,10 +4,9 @@
 mod input;
 mod report;
 
-use fields::cuts::first_line;
-use input::letters;
+use books::sets::{RuleSet, judge_by};
+use input::{first_line, letters};
 use rules::refusal::Refusal;
-use sets::{RuleSet, judge_by};
 use std::io;
 use std::io::Read;
 

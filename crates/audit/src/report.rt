@@ -1,7 +1,7 @@
 // What the program prints: a first line for programs, and then what a person wants to know.
+use books::sets::RuleSet;
 use rules::breach::Breach;
 use rules::refusal::Refusal;
-use sets::RuleSet;
 use std::io;
 
 // The short name of the quarter's day; quarter 0 is on a Monday.

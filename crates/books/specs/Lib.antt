@@ -2,6 +2,7 @@ pub mod Bounds
 pub mod Pauses
 pub mod Sentences
 pub mod Sets
+pub mod Verdicts
 pub mod Period
 pub mod UsShift
 pub mod DrivingBreak
@@ -10,6 +11,10 @@ pub mod DutyCycle
 pub mod EuDay
 pub mod EuWeeks
 pub mod WeeklyRest
+pub mod Names
+pub mod Piles
+pub mod Worked
+pub mod Machines
 pub mod Breaks
 pub mod Broken
 pub mod Counters

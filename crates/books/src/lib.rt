@@ -1,4 +1,4 @@
-// The rule books: two bottom ones, and the layers that are piled on them.
+// The rule books, and the named rule sets made of them.
 #![tactic(auto)]
 
 pub mod driving_break;
@@ -6,6 +6,8 @@ pub mod duty_cycle;
 pub mod eu_day;
 pub mod pause;
 pub mod period;
+pub mod sets;
 pub mod us_shift;
 pub mod weekly_rest;
 pub mod weeks;
+pub mod worked;

@@ -1,10 +1,10 @@
 // Judges each line of standard input, a rule set's name and a log spelled as runs, and prints the answers.
 #![tactic(auto)]
 
+use books::sets::{RuleSet, judge_by};
 use case_lines::answer::Answer;
 use case_lines::run::log_of;
 use rules::refusal::Refusal;
-use sets::{RuleSet, judge_by};
 use std::alloc::{AllocError, Global};
 use std::io;
 use std::io::{BufRead, BufReader};

@@ -2,9 +2,9 @@
 use Rattle.std.proofs.Common.{◌≡◌, ℕ, zero, suc, ◌^◌, ◌<◌, ◌≤◌, false, eqb, List, [], ◌∷◌, ◌++◌, get_or, drop, Ok, Err, codes, decimal, sym, refl, ap, ◌∙◌, subst, arith}
 use Rattle.std.proofs.lemmas.Fmt.{decimal_injective}
 use Rattle.std.proofs.lemmas.Bool.{eqb-false}
-use Rattle.sets.specs.declared.RuleSet.{RuleSet}
-use Rattle.sets.specs.declared.RuleSet.TheVariants as set
-use Rattle.sets.specs.Names.{set_name}
+use Rattle.books.specs.declared.sets.RuleSet.{RuleSet}
+use Rattle.books.specs.declared.sets.RuleSet.TheVariants as set
+use Rattle.books.specs.Names.{set_name}
 use Rattle.fields.proofs.Cutting.{parted_once, lacks_not, lacks_so}
 use Rattle.fields.proofs.Numerals.{led_once}
 use Rattle.fields.specs.Cuts.{Lacks, Parted}

@@ -7,7 +7,7 @@
 use Rattle.std.specs.Prelude.{◌≡◌, ℕ, ◌≤◌, List, ◌∷◌, ◌++◌, Ok, Err, codes, decimal, Result, ◌≢◌}
 use Rattle.rules.specs.declared.refusal.Refusal.{Refusal}
 use Rattle.rules.specs.declared.refusal.Refusal.TheVariants as why
-use Rattle.sets.specs.Names.{set_name}
+use Rattle.books.specs.Names.{set_name}
 use Rattle.planner.specs.declared.call.Call.{Call}
 use Rattle.planner.specs.declared.call.Call.TheVariants.{Record, Add, Drop, Plan}
 use Rattle.lines.specs.declared.line.Line.{Line}

@@ -6,8 +6,8 @@
 use Rattle.std.specs.Prelude.{◌≡◌, ℕ, ◌+◌, ◌<◌, List, [], ◌∷◌, ◌++◌, length, Some, None, Ok, Err, Option, Result}
 use Rattle.std.specs.Option.{option_to_list}
 use Rattle.rules.specs.declared.refusal.Refusal.{Refusal}
-use Rattle.sets.specs.declared.RuleSet.{RuleSet}
-use Rattle.sets.specs.declared.RuleSet.TheVariants as set
+use Rattle.books.specs.declared.sets.RuleSet.{RuleSet}
+use Rattle.books.specs.declared.sets.RuleSet.TheVariants as set
 use Rattle.fields.specs.Cuts.{FirstLine}
 use Rattle.planner.specs.declared.call.Call.{Call}
 use Rattle.lines.specs.declared.line.Line.{Line}

@@ -1,6 +1,6 @@
 // What a line asks.
+use books::sets::RuleSet;
 use planner::call::Call;
-use sets::RuleSet;
 
 // A rule set to plan under, or a call.
 #[derive(Clone, Copy)]

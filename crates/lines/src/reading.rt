@@ -3,11 +3,11 @@ ghost use Rattle.std.specs.Prelude.{◌≡◌, ℕ, ◌++◌, codes};
 ghost use Rattle.lines.specs.Says.{Says, Reads, plan_call};
 
 use crate::line::Line;
+use books::sets::RuleSet;
 use fields::cuts::{cut_at, single};
 use fields::numbers::{leading_number, read_number};
 use planner::call::Call;
 use rules::refusal::Refusal;
-use sets::RuleSet;
 
 // The call that plans, with the lengths of its buffers: the sheet of labels, the trail and the output.
 fn plan_call() -> Call

@@ -4,10 +4,10 @@ ghost use Rattle.lines.specs.Texts.{Read_from, set_read, call_read, calls_read};
 
 use crate::line::Line;
 use crate::reading::read_line;
+use books::sets::RuleSet;
 use fields::cuts::first_line;
 use planner::call::Call;
 use rules::refusal::Refusal;
-use sets::RuleSet;
 use std::alloc::{AllocError, Global};
 
 // The rule set of a text that names none.

@@ -4,11 +4,11 @@
 
 mod input;
 
+use books::sets::{RuleSet, eu, us7, us8};
 use input::calls_of;
 use planner::call::{Answer, Call};
 use planner::calls::run_calls;
 use rules::refusal::Refusal;
-use sets::{RuleSet, eu, us7, us8};
 use std::alloc::{AllocError, Global};
 use std::io;
 use std::io::{BufRead, BufReader};

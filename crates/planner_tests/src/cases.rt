@@ -1,7 +1,7 @@
 // Plans after recorded quarters, after a dropped stop, and of a full tour.
 use crate::answers::{add, plan, record, try_calls};
+use books::sets::{eu, us7};
 use planner::call::Call;
-use sets::{eu, us7};
 use std::alloc::{AllocError, Global};
 use std::io;
 

@@ -1,9 +1,9 @@
 // The carrier's book, alone and over a named rule set.
 use crate::answers::{add, plan, record, try_calls};
 use crate::carrier::DayOnly;
+use books::sets::us7;
 use planner::call::Call;
 use rules::layered::Layered;
-use sets::us7;
 use std::io;
 
 // Quarters 24 to 79 of a day are for driving: 10 from 24 on and a service end before 36, and of 60 more 44 are left that day

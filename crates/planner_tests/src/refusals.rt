@@ -1,7 +1,7 @@
 // Each refusal at its boundary.
 use crate::answers::{add, plan, record, try_calls};
+use books::sets::us7;
 use planner::call::Call;
-use sets::us7;
 use std::io;
 
 // Letters, counts and a breach; what is refused leaves nothing on the card.

@@ -1,6 +1,6 @@
 // One stop whose window closes a quarter too early, and in time.
 use crate::answers::{add, plan, try_calls};
-use sets::{eu, us7};
+use books::sets::{eu, us7};
 use std::io;
 
 // 18 quarters of driving, 3 of rest and 18 of driving reach the stop before quarter 39.

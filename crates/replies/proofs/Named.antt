@@ -3,13 +3,13 @@ use Rattle.std.proofs.Common.{◌≡◌, ℕ, ◌≤◌, List, refl, subst, lit�
 use Rattle.duty.specs.declared.Duty.{Duty}
 use Rattle.books.specs.Sets.{placed, Lawful}
 use Rattle.books.specs.Tied.{allowed-lawful}
-use Rattle.sets.specs.declared.RuleSet.TheVariants as set
-use Rattle.sets.specs.Machines.{UsRow, us_names, us_after, us_better, EuRow, eu_names, eu_after, eu_better}
-use Rattle.sets.specs.Names.{us_rules, eu_rules}
-use Rattle.sets.specs.Piles.{opened_us, opened_eu}
-use Rattle.sets.proofs.EuSets.{EuLawful, eu_opened, eu-piled}
-use Rattle.sets.proofs.Sorting.{ascending_sorted}
-use Rattle.sets.proofs.UsSets.{UsLawful, us_opened, us_piled}
+use Rattle.books.specs.declared.sets.RuleSet.TheVariants as set
+use Rattle.books.specs.Machines.{UsRow, us_names, us_after, us_better, EuRow, eu_names, eu_after, eu_better}
+use Rattle.books.specs.Names.{us_rules, eu_rules}
+use Rattle.books.specs.Piles.{opened_us, opened_eu}
+use Rattle.books.proofs.EuSets.{EuLawful, eu_opened, eu-piled}
+use Rattle.books.proofs.Sorting.{ascending_sorted}
+use Rattle.books.proofs.UsSets.{UsLawful, us_opened, us_piled}
 use Rattle.planner.specs.declared.call.Answer.{Answer}
 use Rattle.planner.specs.declared.call.Call.{Call}
 use Rattle.planner.specs.History.{fresh}

@@ -15,11 +15,11 @@ use Rattle.rules.specs.declared.refusal.Refusal.{Refusal}
 use Rattle.rules.specs.declared.refusal.Refusal.TheVariants as why
 use Rattle.rules.specs.Refusals.{number}
 use Rattle.books.specs.Sets.{Lawful, FirstBreach}
-use Rattle.sets.specs.declared.RuleSet.{RuleSet}
-use Rattle.sets.specs.declared.RuleSet.TheVariants as set
-use Rattle.sets.specs.Machines.{us_names, us_after, us_better, eu_names, eu_after, eu_better}
-use Rattle.sets.specs.Names.{sentences}
-use Rattle.sets.specs.Piles.{opened_us, opened_eu}
+use Rattle.books.specs.declared.sets.RuleSet.{RuleSet}
+use Rattle.books.specs.declared.sets.RuleSet.TheVariants as set
+use Rattle.books.specs.Machines.{us_names, us_after, us_better, eu_names, eu_after, eu_better}
+use Rattle.books.specs.Names.{sentences}
+use Rattle.books.specs.Piles.{opened_us, opened_eu}
 use Rattle.planner.specs.declared.call.Answer.{Answer}
 use Rattle.planner.specs.declared.call.Answer.TheVariants.{Refused}
 use Rattle.planner.specs.declared.call.Call.{Call}

@@ -8,12 +8,12 @@ ghost use Rattle.replies.specs.Promised.{KeptUnder, Reply, Answered};
 ghost use Rattle.replies.specs.Replies.{Replied};
 
 use crate::reply::spell_reply;
+use books::sets::{RuleSet, eu, us7, us8};
 use lines::line::Line;
 use lines::whole::{calls_of, read_text, set_of};
 use planner::calls::run_calls;
 use rules::book::RuleBook;
 use rules::refusal::Refusal;
-use sets::{RuleSet, eu, us7, us8};
 use std::alloc::{AllocError, Global};
 
 // The reply to the lines of a text under a book.

@@ -1,7 +1,7 @@
 use Rattle.std.proofs.Common.{◌≡◌, ◌+◌, List, [], ◌∷◌, ◌++◌, drop, Ok, vec_items, Option, sym, ap, ◌∙◌, subst}
 use Rattle.std.proofs.lemmas.List.{append_assoc, append-nil, at_drop_more, at_drop_all}
 use Rattle.std.specs.Option.{option_to_list}
-use Rattle.sets.specs.declared.RuleSet.TheVariants as set
+use Rattle.books.specs.declared.sets.RuleSet.TheVariants as set
 use Rattle.planner.specs.declared.call.Call.{Call}
 use Rattle.lines.specs.declared.line.Line.TheVariants as line
 use Rattle.lines.specs.Texts.{calls_read, call_read}

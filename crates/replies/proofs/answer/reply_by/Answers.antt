@@ -1,6 +1,6 @@
 use Rattle.std.proofs.Common.{List, IfOk, vec_items, sym, subst, lit≤}
 use Rattle.std.proofs.lemmas.Result.{IfOk-weaker}
-use Rattle.sets.specs.Piles.{us_row, eu_row}
+use Rattle.books.specs.Piles.{us_row, eu_row}
 use Rattle.lines.specs.Texts.{calls_read}
 use Rattle.planner.specs.declared.call.Answer.{Answer}
 use Rattle.replies.specs.Promised.{KeptUnder}

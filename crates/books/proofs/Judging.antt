@@ -11,7 +11,7 @@ use Rattle.rules.specs.Walk.{led, Allowed}
 use Rattle.rules.proofs.Allows.{allows, allows-allowed}
 use Rattle.books.specs.Sentences.{Rule}
 use Rattle.books.specs.Sets.{placed, Lawful, FirstBreach}
-use Rattle.sets.specs.Verdicts.{FoundBy, JudgedBy}
+use Rattle.books.specs.Verdicts.{FoundBy, JudgedBy}
 use Rattle.books.specs.Broken.{Sorted}
 use Rattle.books.specs.Tied.{Tied, breach-some, allowed-lawful, breached-first}
 

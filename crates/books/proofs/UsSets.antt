@@ -7,18 +7,18 @@ use Rattle.rules.specs.Judged.{Judged}
 use Rattle.books.specs.declared.pause.Pause.TheVariants as kind
 use Rattle.books.specs.DrivingBreak.{break_names, break_after, opened_break}
 use Rattle.books.specs.DutyCycle.{cycle_names, cycle_after, opened_cycle}
-use Rattle.sets.specs.Names.{us_rules}
-use Rattle.sets.specs.Machines.{UsRow, us_low_names, us_low_after, us_names, us_after}
-use Rattle.sets.specs.Piles.{opened_us}
+use Rattle.books.specs.Names.{us_rules}
+use Rattle.books.specs.Machines.{UsRow, us_low_names, us_low_after, us_names, us_after}
+use Rattle.books.specs.Piles.{opened_us}
 use Rattle.books.specs.Sets.{placed, Lawful, shift_rules, break_rules, cycle_rules}
 use Rattle.books.specs.UsShift.{shift_names, shift_after, opened_shift}
-use Rattle.sets.specs.Verdicts.{JudgedBy}
+use Rattle.books.specs.Verdicts.{JudgedBy}
 use Rattle.books.specs.Breaks.{break_tied}
 use Rattle.books.specs.Cycles.{cycle_tied}
-use Rattle.sets.proofs.Judging.{judged_by}
-use Rattle.sets.proofs.Piled.{Piled, bottom, over}
+use Rattle.books.proofs.Judging.{judged_by}
+use Rattle.books.proofs.Piled.{Piled, bottom, over}
 use Rattle.books.specs.Shift.{shift_tied}
-use Rattle.sets.proofs.Sorting.{ascending_sorted}
+use Rattle.books.proofs.Sorting.{ascending_sorted}
 
 -- what the pile's own functions mean by lawful, and by opening
 abbrev pub UsLawful : UsRow → List Duty → Type 0

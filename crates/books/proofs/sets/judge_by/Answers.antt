@@ -1,10 +1,10 @@
 use Rattle.std.proofs.Common.{sym, subst, lit≤}
-use Rattle.sets.specs.Names.{sentences}
-use Rattle.sets.specs.Piles.{us_row, eu_row}
-use Rattle.sets.specs.Verdicts.{JudgedBy}
-use Rattle.sets.proofs.EuSets.{eu-judged}
-use Rattle.sets.proofs.UsSets.{us_judged}
-use Rattle.sets.proofs.judge_by.Goals as goal
+use Rattle.books.specs.Names.{sentences}
+use Rattle.books.specs.Piles.{us_row, eu_row}
+use Rattle.books.specs.Verdicts.{JudgedBy}
+use Rattle.books.proofs.EuSets.{eu-judged}
+use Rattle.books.proofs.UsSets.{us_judged}
+use Rattle.books.proofs.sets.judge_by.Goals as goal
 
 pub returns-in-Us7 : goal.returns-in-Us7
 returns-in-Us7 c =

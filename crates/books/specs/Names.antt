@@ -1,8 +1,8 @@
 -- The named rule sets, by their names and by the rules of their layers. Assumes nothing.
 use Rattle.std.specs.Prelude.{ℕ, List, [], ◌∷◌, codes}
 use Rattle.books.specs.declared.pause.Pause.TheVariants as kind
-use Rattle.sets.specs.declared.RuleSet.{RuleSet}
-use Rattle.sets.specs.declared.RuleSet.TheVariants as set
+use Rattle.books.specs.declared.sets.RuleSet.{RuleSet}
+use Rattle.books.specs.declared.sets.RuleSet.TheVariants as set
 use Rattle.books.specs.Sentences.{Rule}
 use Rattle.books.specs.Sets.{shift_rules, break_rules, cycle_rules, day_rules, weeks_rules, weekly_rest_rules}
 

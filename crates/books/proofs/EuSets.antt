@@ -8,18 +8,18 @@ use Rattle.books.specs.declared.pause.Pause.TheVariants as kind
 use Rattle.books.specs.DrivingBreak.{break_names, break_after, opened_break}
 use Rattle.books.specs.EuDay.{day_names, day_after, opened_day}
 use Rattle.books.specs.EuWeeks.{weeks_names, weeks_after, opened_weeks}
-use Rattle.sets.specs.Names.{eu_rules}
-use Rattle.sets.specs.Machines.{EuRow, eu_low_names, eu_low_after, eu_mid_names, eu_mid_after, eu_names, eu_after}
-use Rattle.sets.specs.Piles.{opened_eu}
+use Rattle.books.specs.Names.{eu_rules}
+use Rattle.books.specs.Machines.{EuRow, eu_low_names, eu_low_after, eu_mid_names, eu_mid_after, eu_names, eu_after}
+use Rattle.books.specs.Piles.{opened_eu}
 use Rattle.books.specs.Sets.{placed, Lawful, break_rules, day_rules, weeks_rules, weekly_rest_rules}
-use Rattle.sets.specs.Verdicts.{JudgedBy}
+use Rattle.books.specs.Verdicts.{JudgedBy}
 use Rattle.books.specs.WeeklyRest.{weekly_rest_names, weekly_rest_after, opened_weekly_rest}
 use Rattle.books.specs.Breaks.{break_tied}
 use Rattle.books.specs.EuDays.{day_tied}
-use Rattle.sets.proofs.Judging.{judged_by}
+use Rattle.books.proofs.Judging.{judged_by}
 use Rattle.books.specs.LongRest.{weekly_rest_tied}
-use Rattle.sets.proofs.Piled.{Piled, bottom, over}
-use Rattle.sets.proofs.Sorting.{ascending_sorted}
+use Rattle.books.proofs.Piled.{Piled, bottom, over}
+use Rattle.books.proofs.Sorting.{ascending_sorted}
 use Rattle.books.specs.TwoWeeks.{weeks_tied}
 
 -- what the pile's own functions mean by lawful, and by opening

@@ -5,8 +5,8 @@ use Rattle.std.specs.Prelude.{ℕ, List, [], ◌++◌, replicate}
 use Rattle.duty.specs.declared.Duty.{Duty}
 use Rattle.duty.specs.declared.Duty.TheVariants.{Rest, Work, Drive}
 use Rattle.rules.specs.declared.breach.Breach.{Breach}
-use Rattle.sets.specs.declared.RuleSet.TheVariants as set
-use Rattle.sets.specs.Names.{sentences}
+use Rattle.books.specs.declared.sets.RuleSet.TheVariants as set
+use Rattle.books.specs.Names.{sentences}
 use Rattle.books.specs.Sentences.{Rule}
 use Rattle.books.specs.Sets.{Lawful, FirstBreach}
 

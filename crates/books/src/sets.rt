@@ -1,25 +1,20 @@
-// The named rule sets, the judge at one of them, and the worked cases.
-#![tactic(auto)]
-
+// The named rule sets, and the judge at one of them.
 ghost use Rattle.std.specs.Prelude.{◌≡◌, MatchOption};
-ghost use Rattle.sets.specs.Names.{set_name, sentences};
-ghost use Rattle.sets.specs.Verdicts.{JudgedBy};
-ghost use Rattle.sets.specs.Piles.{us_row, given_us, opened_us, eu_row, opened_eu};
+ghost use Rattle.books.specs.Names.{set_name, sentences};
+ghost use Rattle.books.specs.Verdicts.{JudgedBy};
+ghost use Rattle.books.specs.Piles.{us_row, given_us, opened_us, eu_row, opened_eu};
 
-mod worked;
-
-use books::driving_break::{Break, BreakState};
-use books::duty_cycle::{Cycle, CycleState};
-use books::eu_day::EuDay;
-use books::pause::Pause;
-use books::us_shift::UsShift;
-use books::weekly_rest::{WeeklyRest, WeeklyRestState};
-use books::weeks::{Weeks, WeeksState};
+use crate::driving_break::{Break, BreakState};
+use crate::duty_cycle::{Cycle, CycleState};
+use crate::eu_day::EuDay;
+use crate::pause::Pause;
+use crate::us_shift::UsShift;
+use crate::weekly_rest::{WeeklyRest, WeeklyRestState};
+use crate::weeks::{Weeks, WeeksState};
 use rules::breach::Breach;
 use rules::judge::judge;
 use rules::layered::Layered;
 use rules::refusal::Refusal;
-pub use worked::worked_cases;
 
 #[derive(Clone, Copy, PartialEq, Eq, Debug)]
 pub enum RuleSet {

@@ -6,15 +6,15 @@ use Rattle.rules.specs.declared.breach.Breach.{Breach}
 use Rattle.rules.specs.Judged.{breach_at}
 use Rattle.rules.specs.Walk.{led}
 use Rattle.rules.proofs.Allows.{allows}
-use Rattle.sets.specs.Names.{us_rules, eu_rules}
-use Rattle.sets.specs.Piles.{opened_us, opened_eu}
+use Rattle.books.specs.Names.{us_rules, eu_rules}
+use Rattle.books.specs.Piles.{opened_us, opened_eu}
 use Rattle.books.specs.Sets.{placed, Lawful, FirstBreach}
-use Rattle.sets.specs.Worked.{us7, us8, eu, breach, six_days, Worked}
-use Rattle.sets.proofs.EuSets.{eu-piled}
-use Rattle.sets.proofs.Judging.{computed_lawful, computed_breach}
-use Rattle.sets.proofs.Sorting.{ascending_sorted}
-use Rattle.sets.proofs.UsSets.{us_piled}
-use Rattle.sets.specs.Machines.{us_names, us_after, eu_names, eu_after}
+use Rattle.books.specs.Worked.{us7, us8, eu, breach, six_days, Worked}
+use Rattle.books.proofs.EuSets.{eu-piled}
+use Rattle.books.proofs.Judging.{computed_lawful, computed_breach}
+use Rattle.books.proofs.Sorting.{ascending_sorted}
+use Rattle.books.proofs.UsSets.{us_piled}
+use Rattle.books.specs.Machines.{us_names, us_after, eu_names, eu_after}
 
 us7-lawful : (l : List Duty) → allows us_names us_after (opened_us 7 240) 0 l ≡ true → Lawful us7 l
 us7-lawful = computed_lawful us_names us_after (opened_us 7 240) us7 (us_piled 7 240 (lit≤ tt) (lit≤ tt)).tied (ascending_sorted (placed 1 us7) refl)
