@@ -1,7 +1,7 @@
 #!/usr/bin/env python3
 """Times one plan of typical and of hard tours, and shows how the time grows with the span and with the labels kept.
 
-Wants target/bin/plan_bench, which `rt check` leaves. The time of one plan is what a line that asks for N plans takes
+Wants the program plan_bench, which `tools/program plan_bench` builds. The time of one plan is what a line that asks for N plans takes
 longer than one that asks for a single plan, divided by N - 1; each is the least processor time of three runs.
 """
 import os
@@ -10,7 +10,7 @@ import subprocess
 
 ROOT = pathlib.Path(__file__).resolve().parent.parent
 OUT = ROOT / "target/bench"
-PROGRAM = ROOT / "target/bin/plan_bench"
+PROGRAM = ROOT / "crates/plan_bench/out/plan_bench"
 TOO_MANY_LABELS = "refused,11"
 
 

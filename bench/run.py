@@ -1,7 +1,7 @@
 #!/usr/bin/env python3
 """Times frontier_pairs against the same two loops in plain Rust: the same pairs, as often, and the same output.
 
-Wants rustc, and target/bin/frontier_pairs, which `rt check` leaves. Each figure is the least processor time of nine runs.
+Wants rustc, and the program frontier_pairs, which `tools/program frontier_pairs` builds. Each figure is the least processor time of nine runs.
 """
 import os
 import pathlib
@@ -9,7 +9,7 @@ import subprocess
 
 ROOT = pathlib.Path(__file__).resolve().parent.parent
 OUT = ROOT / "target/bench"
-PROVED = ROOT / "target/bin/frontier_pairs"
+PROVED = ROOT / "crates/frontier_pairs/out/frontier_pairs"
 PLAIN = OUT / "frontier"
 
 

@@ -1,7 +1,7 @@
 #!/usr/bin/env python3
 """Times whole texts of 4,096 bytes filled with plans: the program hours and the reference in plain Rust, in one run.
 
-Wants target/bin/hours, which `rt check` leaves, and rustc for bench/reference. Each figure is the least processor time of five
+Wants the program hours_text, which `tools/program hours_text` builds, and rustc for bench/reference. Each figure is the least processor time of five
 runs of the program, its start included; the two replies are compared but for the schedules, whose choice is free.
 """
 import os
@@ -10,7 +10,7 @@ import subprocess
 
 ROOT = pathlib.Path(__file__).resolve().parent.parent
 OUT = ROOT / "target/bench"
-HOURS = [str(ROOT / "target/bin/hours")]
+HOURS = [str(ROOT / "crates/hours_text/out/hours_text")]
 REFERENCE = [str(ROOT / "target/reference/reference"), "hours"]
 
 # The slowest found among random tours, by whether the plan is taken or refused for want of labels, and a short one.

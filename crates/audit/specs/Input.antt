@@ -2,7 +2,7 @@
 --   spaced b             b is white space: a tab, a line end, a form feed, a carriage return or a blank
 --   inked b              b is not white space
 --   Cut text line rest   line is what stands before the first line end of text, and rest what stands after it
-use Rattle.std.specs.Prelude.{◌≡◌, ℕ, ◌<◌, Bool, true, not, ◌||◌, ◌⊎◌, List, [], ◌∷◌, ◌++◌, length, ◌==◌, ◌≢◌, slice_index}
+use Rattle.std.specs.Prelude.{◌≡◌, ℕ, ◌<◌, Bool, not, ◌||◌, ◌⊎◌, List, [], ◌∷◌, ◌++◌, length, ◌==◌, ◌≢◌, slice_index}
 
 abbrev pub spaced : ℕ → Bool
 spaced b = b == 9 || b == 10 || b == 12 || b == 13 || b == 32

@@ -1,15 +1,14 @@
 -- The worked cases, computed by the books that keep the sentences.
-use Rattle.std.proofs.Common.{◌≡◌, ℕ, ◌<◌, true, List, length, take, Some, refl, lit<, lit≤}
+use Rattle.std.proofs.Common.{◌≡◌, ◌<◌, true, List, length, take, Some, refl, lit<, lit≤}
 use Rattle.duty.specs.declared.Duty.{Duty}
 use Rattle.duty.specs.Logs.{at}
 use Rattle.rules.specs.declared.breach.Breach.{Breach}
 use Rattle.rules.specs.Judged.{breach_at}
 use Rattle.rules.specs.Walk.{led}
 use Rattle.rules.proofs.Allows.{allows}
-use Rattle.books.specs.Names.{us_rules, eu_rules}
 use Rattle.books.specs.Piles.{opened_us, opened_eu}
 use Rattle.books.specs.Sets.{placed, Lawful, FirstBreach}
-use Rattle.books.specs.Worked.{us7, us8, eu, breach, six_days, Worked}
+use Rattle.books.specs.Worked.{us7, us8, eu, breach, Worked}
 use Rattle.books.proofs.EuSets.{eu-piled}
 use Rattle.books.proofs.Judging.{computed_lawful, computed_breach}
 use Rattle.books.proofs.Sorting.{ascending_sorted}

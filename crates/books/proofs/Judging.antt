@@ -1,5 +1,5 @@
 -- What the judge finds by a book that is tied to a rule set, in the words of that set's sentences.
-use Rattle.std.proofs.Common.{◌≡◌, ℕ, ◌<◌, true, List, length, take, Some, None, Ok, Err, Option, Result, sym, ap, ◌∙◌}
+use Rattle.std.proofs.Common.{◌≡◌, ℕ, ◌<◌, true, List, length, take, Some, None, Ok, Err, Option, Result, ap}
 use Rattle.duty.specs.declared.Duty.{Duty}
 use Rattle.duty.specs.Logs.{at}
 use Rattle.duty.specs.Duties.{spelt}

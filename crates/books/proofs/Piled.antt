@@ -1,11 +1,7 @@
 -- A pile of books that keeps just the sentences of its layers: made of its bottom book, a layer at a time.
-use Rattle.std.proofs.Common.{◌≡◌, ℕ, ◌+◌, ◌<◌, List, [], ◌∷◌, ◌++◌, map, length, Option, Result, sym, ap, subst, inl, inr}
+use Rattle.std.proofs.Common.{ℕ, ◌+◌, ◌<◌, List, [], ◌∷◌, ◌++◌, map, length, Option, sym, ap, subst, inl, inr}
 use Rattle.duty.specs.declared.Duty.{Duty}
-use Rattle.rules.specs.declared.breach.Breach.{Breach}
 use Rattle.rules.specs.declared.breach.Violation.{Violation}
-use Rattle.rules.specs.declared.layered.Stacked.{Stacked}
-use Rattle.rules.specs.declared.refusal.Refusal.{Refusal}
-use Rattle.rules.specs.Judged.{Judged}
 use Rattle.rules.specs.Walk.{Allowed}
 use Rattle.rules.specs.Piling.{both_name, both_move}
 use Rattle.rules.specs.LayersLemmas.{allowed-both}

@@ -1,5 +1,5 @@
 -- Whether rules stand in the order of their layers and numbers, by computation.
-use Rattle.std.proofs.Common.{◌≡◌, ℕ, ◌<◌, Bool, true, false, not, ◌&&◌, ◌||◌, eqb, ltb, ◌⊎◌, List, [], ◌∷◌, sym, ap, ◌∙◌, subst, inl, inr}
+use Rattle.std.proofs.Common.{◌≡◌, ℕ, Bool, true, not, ◌&&◌, ◌||◌, eqb, ltb, List, [], ◌∷◌, subst, inl, inr}
 use Rattle.std.proofs.lemmas.Bool.{and_parts, both_ways, not-true, or_left, or_right, and_from, lt-ltb, eq-eqb}
 use Rattle.books.specs.Sentences.{Rule, rule_number}
 use Rattle.books.specs.Sets.{Among, Lower}

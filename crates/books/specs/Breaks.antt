@@ -1,17 +1,15 @@
 -- The break keeps just its sentence; its figures stay, and what is made from a row is a state.
-use Rattle.std.specs.Prelude.{◌≡◌, ℕ, suc, ◌+◌, ◌<◌, ◌≤◌, Bool, true, false, cond, ◌||◌, ◌⊎◌, List, [], ◌∷◌, Some, None, Option, ◌==◌, nat_le, nat_lt, refl}
-use Rattle.std.proofs.Common.{inl, inr, ⊎_elim, sym, ap, subst, ◌∙◌, arith}
+use Rattle.std.specs.Prelude.{◌≡◌, ℕ, suc, ◌+◌, Bool, true, false, cond, ◌||◌, List, [], ◌∷◌, Some, None, ◌==◌, nat_le, nat_lt, refl}
+use Rattle.std.proofs.Common.{inl, inr, ⊎_elim, sym, ap, ◌∙◌, arith}
 use Rattle.std.proofs.lemmas.Bool.{cond-true, cond-false, cond_both, and_parts, or_cases, leb-true, leb-false, ltb-true, eqb-true, eqb-false}
 use Rattle.duty.specs.declared.Duty.{Duty}
 use Rattle.duty.specs.declared.Duty.TheVariants.{Rest, Work, Drive}
 use Rattle.duty.specs.Duties.{driving}
 use Rattle.duty.specs.Logs.{at}
 use Rattle.duty.proofs.Runs.{run_at}
-use Rattle.rules.specs.declared.breach.Violation.{Violation}
 use Rattle.rules.specs.Layers.{moved}
 use Rattle.books.specs.declared.driving_break.book.BreakRow.{BreakRow}
 use Rattle.books.specs.declared.pause.Pause.{Pause}
-use Rattle.books.specs.Bounds.{BreakFigures, BreakBounds}
 use Rattle.books.specs.DrivingBreak.{BreakSound, opened_break, given_break, break_names, next_break, break_after, fits_break, remade_break}
 use Rattle.books.specs.Pauses.{pauses}
 use Rattle.books.specs.Sets.{placed, break_rules}

@@ -1,9 +1,8 @@
 -- The counters of the books, as counts of the log: what each is before quarter k, and one quarter on.
 --   elapsed_at n held l k    the quarters since the latest rest run of n, held at `held`
 --   counted p n c l k        the quarters with c since the latest pause of n
-use Rattle.std.specs.Prelude.{◌≡◌, ℕ, suc, ◌+◌, ◌-◌, ◌<◌, ◌≤◌, min, Bool, true, false, cond, List, ◌≢◌, refl}
-use Rattle.std.proofs.Common.{sym, ap, subst, ◌∙◌, arith}
-use Rattle.std.proofs.lemmas.Bool.{cond_both, eqb-true, eqb-false}
+use Rattle.std.specs.Prelude.{◌≡◌, ℕ, suc, ◌+◌, ◌-◌, min, Bool, cond, List, ◌≢◌}
+use Rattle.std.proofs.Common.{ap, ◌∙◌, arith}
 use Rattle.duty.specs.declared.Duty.{Duty}
 use Rattle.duty.specs.Logs.{at, count}
 use Rattle.duty.proofs.Counts.{count_more, count_none}

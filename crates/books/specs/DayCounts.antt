@@ -1,12 +1,12 @@
 -- The counts of a cycle, one to a day: entry i is of the day i days before the day of the next quarter. Assumes nothing.
 --   NoMore a b              no count of a is larger than b's of the same day
---   none_on                  nothing on any of the eight days
---   total_on on              the quarters on duty of all the days
---   aged days i n            the count n of a day that is now i days back: 0 where that day is no longer counted
---   gone_on today on         the counts within a day, with a new count for today
---   turned days today on     the counts that the next day begins with
---   next_counts days q on    the counts after quarter q, where the rest is not full
---   all_within f on          the count of each day i is at most f i
+--   none_on                 nothing on any of the eight days
+--   total_on on             the quarters on duty of all the days
+--   aged days i n           the count n of a day that is now i days back: 0 where that day is no longer counted
+--   gone_on today on        the counts within a day, with a new count for today
+--   turned days today on    the counts that the next day begins with
+--   next_counts days q on   the counts after quarter q, where the rest is not full
+--   all_within f on         the count of each day i is at most f i
 use Rattle.std.specs.Prelude.{ℕ, suc, ◌+◌, ◌%◌, ◌≤◌, min, Bool, true, cond, ◌&&◌, List, [], ◌∷◌, ◌==◌, nat_le, nat_lt, slice_index}
 
 abbrev pub NoMore : List ℕ → List ℕ → Type 0

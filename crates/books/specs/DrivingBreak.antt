@@ -1,8 +1,8 @@
 -- The break from driving as a state machine. Assumes nothing.
---   NoWorseBreak a b       the same figures, no more driven, and no shorter a pause
---   break_names              rule 5 where the driving since the latest pause has reached the limit
---   next_break               one quarter on: a pause that gets full ends the count
---   given_break              the state before quarter 0, each figure taken as the nearest in 1 to 96
+--   NoWorseBreak a b   the same figures, no more driven, and no shorter a pause
+--   break_names        rule 5 where the driving since the latest pause has reached the limit
+--   next_break         one quarter on: a pause that gets full ends the count
+--   given_break        the state before quarter 0, each figure taken as the nearest in 1 to 96
 use Rattle.std.specs.Prelude.{◌≡◌, ℕ, ◌+◌, ◌≤◌, min, max, Bool, cond, ◌&&◌, ◌||◌, Some, None, Option, ◌==◌, nat_le, nat_lt}
 use Rattle.duty.specs.declared.Duty.{Duty}
 use Rattle.duty.specs.declared.Duty.TheVariants.{Rest, Work, Drive}

@@ -1,13 +1,13 @@
 -- The duty cycle as a state machine. Assumes nothing.
---   cycle_row b              the figures of a state
---   CycleSound s            the figures that a state can have
---   NoWorseCycle a b       the same figures, no more on duty on any day, and no shorter a rest
---   cycle_names              rule 6 where the quarters on duty have reached the limit
---   next_cycle s q x         one quarter on: a rest that gets full ends the counts
---   cycle_after              the same, where the status is allowed; else the state as it is
---   opened_cycle             the state before quarter 0
---   given_cycle              the same, each figure taken as the nearest in its range
---   remade_cycle s           the row s where it is a state's, else the state before quarter 0
+--   cycle_row b        the figures of a state
+--   CycleSound s       the figures that a state can have
+--   NoWorseCycle a b   the same figures, no more on duty on any day, and no shorter a rest
+--   cycle_names        rule 6 where the quarters on duty have reached the limit
+--   next_cycle s q x   one quarter on: a rest that gets full ends the counts
+--   cycle_after        the same, where the status is allowed; else the state as it is
+--   opened_cycle       the state before quarter 0
+--   given_cycle        the same, each figure taken as the nearest in its range
+--   remade_cycle s     the row s where it is a state's, else the state before quarter 0
 use Rattle.std.specs.Prelude.{◌≡◌, ℕ, ◌≤◌, min, max, Bool, cond, ◌&&◌, Some, None, Option, ◌==◌, nat_le}
 use Rattle.std.specs.Ordering.{on, eq_of_both}
 use Rattle.std.specs.Cmp.Lexicographic.{pointwise}

@@ -1,9 +1,9 @@
 -- The EU day as a state machine. Assumes nothing.
---   DaySound       the figures that a state can have
---   opened_day      a full rest just taken
---   day_names       rule 3 where 52 quarters have gone by, rule 4 where 36 of them were driving
---   day_after       one quarter on, where it is allowed
---   remade_day      the row itself where it is a state's, else the opened one
+--   DaySound     the figures that a state can have
+--   opened_day   a full rest just taken
+--   day_names    rule 3 where 52 quarters have gone by, rule 4 where 36 of them were driving
+--   day_after    one quarter on, where it is allowed
+--   remade_day   the row itself where it is a state's, else the opened one
 use Rattle.std.specs.Prelude.{ℕ, Bool, cond, ◌&&◌, ◌||◌, Some, None, Option, ◌==◌, nat_le, nat_lt}
 use Rattle.duty.specs.declared.Duty.{Duty}
 use Rattle.duty.specs.declared.Duty.TheVariants.{Rest, Work, Drive}

@@ -1,11 +1,11 @@
 -- The EU weeks as a state machine over the driving of this week and of last week. Assumes nothing.
---   WeeksNoWorse  no count is larger
+--   WeeksNoWorse   no count is larger
 --   WeeksSound     the figures that a state can have
---   opened_weeks    nothing driven yet
---   next_weeks      one quarter on: with a week's last quarter this week becomes last week, and a new one is begun
---   weeks_names     rule 7 where 224 quarters of this week were driving, rule 8 where 360 of both were
---   weeks_after     one quarter on, where it is allowed
---   remade_weeks    the row itself where it is a state's, else the opened one
+--   opened_weeks   nothing driven yet
+--   next_weeks     one quarter on: with a week's last quarter this week becomes last week, and a new one is begun
+--   weeks_names    rule 7 where 224 quarters of this week were driving, rule 8 where 360 of both were
+--   weeks_after    one quarter on, where it is allowed
+--   remade_weeks   the row itself where it is a state's, else the opened one
 use Rattle.std.specs.Prelude.{ℕ, ◌+◌, ◌%◌, ◌≤◌, Bool, cond, ◌&&◌, Some, None, Option, ◌==◌, nat_le}
 use Rattle.duty.specs.declared.Duty.{Duty}
 use Rattle.duty.specs.declared.Duty.TheVariants.{Rest, Work, Drive}

@@ -1,7 +1,7 @@
 -- A duty period as plain figures: quarters elapsed since the latest full rest, driving since then, rest run. Assumes nothing.
---   NoWorse a b              no count of a is larger than b's, and its run is not shorter
---   next_period full held     one quarter on, with the run full at `full` and the quarters elapsed held at `held`
-use Rattle.std.specs.Prelude.{◌≡◌, ℕ, ◌+◌, ◌≤◌, min, Bool, true, false, cond, ◌==◌}
+--   NoWorse a b             no count of a is larger than b's, and its run is not shorter
+--   next_period full held   one quarter on, with the run full at `full` and the quarters elapsed held at `held`
+use Rattle.std.specs.Prelude.{ℕ, ◌+◌, ◌≤◌, min, cond, ◌==◌}
 use Rattle.duty.specs.declared.Duty.{Duty}
 use Rattle.duty.specs.Duties.{resting, driving}
 use Rattle.duty.specs.Runs.{next_run}

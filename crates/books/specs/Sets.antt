@@ -1,10 +1,10 @@
 -- Rule sets: which logs keep one, and the first breach of a log that does not. Assumes nothing.
---   a rule set               its layers from the bottom, each a list of rules
---   placed n set             its rules, each with its layer's number, where the lowest layer is n
---   Among x xs               x is one of xs
---   KeepsAll set l q        quarter q keeps every rule of the set
---   Lawful set l             every quarter of the log does
---   FirstBreach set l b     the first quarter that breaks a rule, with the lowest rule of the lowest layer that it breaks
+--   a rule set            its layers from the bottom, each a list of rules
+--   placed n set          its rules, each with its layer's number, where the lowest layer is n
+--   Among x xs            x is one of xs
+--   KeepsAll set l q      quarter q keeps every rule of the set
+--   Lawful set l          every quarter of the log does
+--   FirstBreach set l b   the first quarter that breaks a rule, with the lowest rule of the lowest layer that it breaks
 use Rattle.std.specs.Prelude.{◌≡◌, ℕ, ◌+◌, ◌<◌, ◌⊎◌, List, [], ◌∷◌, ◌++◌, map, length}
 use Rattle.duty.specs.declared.Duty.{Duty}
 use Rattle.rules.specs.declared.breach.Breach.{Breach}

@@ -1,5 +1,5 @@
 -- A state machine tied to a rule set: its state along any log, and what it names there, in the words of the sentences.
-use Rattle.std.specs.Prelude.{◌≡◌, ℕ, suc, ◌+◌, ◌<◌, ◌≤◌, List, [], ◌∷◌, ◌++◌, map, length, take, Some, None, Option, refl}
+use Rattle.std.specs.Prelude.{◌≡◌, ℕ, suc, ◌<◌, ◌≤◌, List, [], ◌∷◌, ◌++◌, length, take, Some, None, Option, refl}
 use Rattle.std.proofs.Common.{sym, ap, subst, ◌∙◌, arith}
 use Rattle.std.proofs.lemmas.List.{take_all, append-nil}
 use Rattle.duty.specs.declared.Duty.{Duty}
@@ -7,8 +7,7 @@ use Rattle.duty.specs.Logs.{at}
 use Rattle.rules.specs.declared.breach.Breach.{Breach}
 use Rattle.rules.specs.declared.breach.Violation.{Violation}
 use Rattle.rules.specs.declared.layered.Stacked.{Stacked}
-use Rattle.rules.specs.Judged.{breach_at, Breached}
-use Rattle.rules.specs.Layers.{raised, first_named}
+use Rattle.rules.specs.Judged.{breach_at}
 use Rattle.rules.specs.Walk.{led, Allowed}
 use Rattle.rules.proofs.Along.{along_led, along_allowed, along_each}
 use Rattle.rules.specs.Piling.{both_name, both_move}

@@ -8,7 +8,6 @@ use Rattle.duty.specs.declared.Duty.TheVariants.{Rest, Work, Drive}
 use Rattle.duty.specs.Duties.{driving}
 use Rattle.duty.specs.Logs.{at, count}
 use Rattle.duty.proofs.Counts.{count_more, count_more_one, count_none, count_parts}
-use Rattle.rules.specs.declared.breach.Violation.{Violation}
 use Rattle.rules.specs.Layers.{moved}
 use Rattle.books.specs.declared.weeks.row.WeeksRow.{WeeksRow}
 use Rattle.books.specs.EuWeeks.{opened_weeks, next_weeks, weeks_names, weeks_after}

@@ -1,11 +1,11 @@
 -- The EU weekly rest as a state machine over the quarters since the latest full rest and the rest run. Assumes nothing.
---   RestNoWorse         the count is not larger, and the run is not shorter
---   WeeklyRestSound     the figures that a state can have
---   opened_weekly_rest    a full rest just taken
---   next_weekly_rest      one quarter on: a rest that gets full begins the count anew, which is held at 576
---   weekly_rest_names     rule 9 where 576 quarters have gone by
---   weekly_rest_after     one quarter on, where it is allowed
---   remade_weekly_rest    the row itself where it is a state's, else the opened one
+--   RestNoWorse          the count is not larger, and the run is not shorter
+--   WeeklyRestSound      the figures that a state can have
+--   opened_weekly_rest   a full rest just taken
+--   next_weekly_rest     one quarter on: a rest that gets full begins the count anew, which is held at 576
+--   weekly_rest_names    rule 9 where 576 quarters have gone by
+--   weekly_rest_after    one quarter on, where it is allowed
+--   remade_weekly_rest   the row itself where it is a state's, else the opened one
 use Rattle.std.specs.Prelude.{ℕ, ◌+◌, ◌≤◌, min, Bool, cond, ◌&&◌, ◌||◌, Some, None, Option, ◌==◌, nat_le, nat_lt}
 use Rattle.duty.specs.declared.Duty.{Duty}
 use Rattle.duty.specs.Duties.{resting, working}

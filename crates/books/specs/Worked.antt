@@ -1,7 +1,7 @@
 -- Worked cases of the rule sets: logs that are lawful, and logs with their first breach. Assumes nothing.
 --   us7, us8, eu             the sentences of the named sets
 --   breach q rule layer      a breach
-use Rattle.std.specs.Prelude.{ℕ, List, [], ◌++◌, replicate}
+use Rattle.std.specs.Prelude.{ℕ, List, ◌++◌, replicate}
 use Rattle.duty.specs.declared.Duty.{Duty}
 use Rattle.duty.specs.declared.Duty.TheVariants.{Rest, Work, Drive}
 use Rattle.rules.specs.declared.breach.Breach.{Breach}

@@ -1,7 +1,7 @@
 -- Bytes cut at a mark. Assumes nothing.
 --   Lacks mark bytes               the mark does not stand among the bytes
 --   Parted mark bytes front back   front is what stands before the first mark, and back what stands after it
---   FirstLine text line rest      line is what stands before the first line end, byte 10, and rest what stands after it; where no
+--   FirstLine text line rest       line is what stands before the first line end, byte 10, and rest what stands after it; where no
 --                                  line ends, line is all of the text
 use Rattle.std.specs.Prelude.{◌≡◌, ℕ, ◌<◌, ◌⊎◌, List, [], ◌∷◌, ◌++◌, length, ◌≢◌, slice_index}
 

@@ -1,11 +1,11 @@
 -- What it is to be a smallest cover, for any relation `covers`. Assumes nothing.
---   Preorder covers                  each covers itself, and what covers a cover covers what that covers
---   Covered covers kept x            one of kept covers x
---   Cover covers kept seen           each of seen is covered by one of kept
---   Apart covers kept                none of kept covers another of kept
---   First covers seen x              x is one of seen, and none of those before it covers it
---   SmallestCover covers kept seen  kept is a smallest cover of seen, in order of arrival
---   StillSmallest covers kept x after    of whatever kept is a smallest cover, after is one of that and then x
+--   Preorder covers                     each covers itself, and what covers a cover covers what that covers
+--   Covered covers kept x               one of kept covers x
+--   Cover covers kept seen              each of seen is covered by one of kept
+--   Apart covers kept                   none of kept covers another of kept
+--   First covers seen x                 x is one of seen, and none of those before it covers it
+--   SmallestCover covers kept seen      kept is a smallest cover of seen, in order of arrival
+--   StillSmallest covers kept x after   of whatever kept is a smallest cover, after is one of that and then x
 use Rattle.std.specs.Prelude.{◌≡◌, ◌≤◌, List, [], ◌∷◌, ◌++◌, length}
 use Rattle.frontier.specs.Lists.{In, Subsequence, Pairwise}
 

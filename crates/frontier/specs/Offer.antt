@@ -1,7 +1,7 @@
 -- What an offer does to the kept elements. Assumes nothing.
---   Without covers x kept left     left is kept without those that x covers, in the same order
---   Offered covers kept x after    after is what is kept once x has been offered to kept
---   LacksPlace covers places kept x why    what would be kept has more elements than there are places, which is refusal 11
+--   Without covers x kept left            left is kept without those that x covers, in the same order
+--   Offered covers kept x after           after is what is kept once x has been offered to kept
+--   LacksPlace covers places kept x why   what would be kept has more elements than there are places, which is refusal 11
 use Rattle.std.specs.Prelude.{◌≡◌, ◌<◌, ◌⊎◌, List, [], ◌∷◌, ◌++◌, length}
 use Rattle.frontier.specs.Cover.{Covered}
 use Rattle.frontier.specs.Number.{number}

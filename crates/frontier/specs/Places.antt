@@ -1,9 +1,9 @@
 -- What a frontier holds.
---   kept f             the elements that it keeps, in their order
---   all f              all its places: the kept elements first, and then what stands beyond them
---   Same f g           g keeps what f keeps, and has each place as f has it
---   SameBeyond f g    beyond the kept elements of both, g has each place as f has it
---   SamePast kept after xs ys    the same of places xs that became ys, where kept became after
+--   kept f                      the elements that it keeps, in their order
+--   all f                       all its places: the kept elements first, and then what stands beyond them
+--   Same f g                    g keeps what f keeps, and has each place as f has it
+--   SameBeyond f g              beyond the kept elements of both, g has each place as f has it
+--   SamePast kept after xs ys   the same of places xs that became ys, where kept became after
 use Rattle.std.specs.Prelude.{◌≡◌, max, List, length, take, drop}
 use Rattle.frontier.specs.declared.container.Frontier.{Frontier}
 

@@ -1,5 +1,5 @@
 -- What lines of one kind say: one thing at most, and only of that kind.
-use Rattle.std.proofs.Common.{◌≡◌, ℕ, zero, suc, ◌^◌, ◌<◌, ◌≤◌, false, eqb, List, [], ◌∷◌, ◌++◌, get_or, drop, Ok, Err, codes, decimal, sym, refl, ap, ◌∙◌, subst, arith}
+use Rattle.std.proofs.Common.{◌≡◌, ℕ, zero, suc, ◌^◌, ◌<◌, ◌≤◌, false, eqb, List, [], ◌∷◌, ◌++◌, get_or, drop, Ok, codes, decimal, sym, refl, ap, ◌∙◌, subst, arith}
 use Rattle.std.proofs.lemmas.Fmt.{decimal_injective}
 use Rattle.std.proofs.lemmas.Bool.{eqb-false}
 use Rattle.books.specs.declared.sets.RuleSet.{RuleSet}
@@ -8,11 +8,10 @@ use Rattle.books.specs.Names.{set_name}
 use Rattle.fields.proofs.Cutting.{parted_once, lacks_not, lacks_so}
 use Rattle.fields.proofs.Numerals.{led_once}
 use Rattle.fields.specs.Cuts.{Lacks, Parted}
-use Rattle.planner.specs.declared.call.Call.{Call}
 use Rattle.planner.specs.declared.call.Call.TheVariants.{Record, Add, Drop, Plan}
 use Rattle.lines.specs.declared.line.Line.{Line}
 use Rattle.lines.specs.declared.line.Line.TheVariants as line
-use Rattle.lines.specs.Says.{Says, Reads, spelled, plan_call}
+use Rattle.lines.specs.Says.{Says, Reads, plan_call}
 
 -- bytes that differ at the first or at the second place
 differ : (a b : ℕ) (xs ys : List ℕ) → eqb a b ≡ false → a ∷ xs ≡ b ∷ ys → ⊥

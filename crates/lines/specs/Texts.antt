@@ -1,8 +1,8 @@
 -- What a whole text asks. Assumes nothing.
---   Read_from n text rs      rs has what each line of the text says, where its first line counts as line n
---   set_read rs              the rule set: that of the first line, or us7 where that names none
---   call_read r              the call that a line asks for, if any
---   calls_read rs            the calls, in the order of their lines
+--   ReadFrom n text rs   rs has what each line of the text says, where its first line counts as line n
+--   set_read rs          the rule set: that of the first line, or us7 where that names none
+--   call_read r          the call that a line asks for, if any
+--   calls_read rs        the calls, in the order of their lines
 use Rattle.std.specs.Prelude.{◌≡◌, ℕ, ◌+◌, ◌<◌, List, [], ◌∷◌, ◌++◌, length, Some, None, Ok, Err, Option, Result}
 use Rattle.std.specs.Option.{option_to_list}
 use Rattle.rules.specs.declared.refusal.Refusal.{Refusal}
@@ -15,10 +15,10 @@ use Rattle.lines.specs.declared.line.Line.TheVariants as line
 use Rattle.lines.specs.Says.{Reads}
 
 -- an empty text has no line
-abbrev pub Read_from : ℕ → List ℕ → List (Result Line Refusal) → Type 0
-Read_from n text [] = text ≡ []
-Read_from n text (r ∷ rs) =
-    (first : List ℕ) × (rest : List ℕ) × (0 < length text) × FirstLine text first rest × Reads n first r × Read_from (n + 1) rest rs
+abbrev pub ReadFrom : ℕ → List ℕ → List (Result Line Refusal) → Type 0
+ReadFrom n text [] = text ≡ []
+ReadFrom n text (r ∷ rs) =
+    (first : List ℕ) × (rest : List ℕ) × (0 < length text) × FirstLine text first rest × Reads n first r × ReadFrom (n + 1) rest rs
 
 abbrev pub default_set : RuleSet
 default_set = set.Us7

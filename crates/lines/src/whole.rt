@@ -1,6 +1,6 @@
 // A whole text: what each of its lines says, and the rule set and the calls that it asks for.
 ghost use Rattle.std.specs.Prelude.{◌≡◌, IfOk};
-ghost use Rattle.lines.specs.Texts.{Read_from, set_read, call_read, calls_read};
+ghost use Rattle.lines.specs.Texts.{ReadFrom, set_read, call_read, calls_read};
 
 use crate::line::Line;
 use crate::reading::read_line;
@@ -15,7 +15,7 @@ const DEFAULT: RuleSet = RuleSet::Us7;
 
 // What each line of the text says, in their order.
 pub fn read_text(heap: Global, text: &[u8]) -> Result<Vec<Result<Line, Refusal>>, AllocError>
-    ensures { IfOk result (λ readings. Read_from 1 text.now readings.items) }
+    ensures { IfOk result (λ readings. ReadFrom 1 text.now readings.items) }
 {
     let mut readings = Vec::new(heap);
     let mut rest = text;

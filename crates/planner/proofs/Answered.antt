@@ -1,11 +1,10 @@
 -- From what a search solved to what plan answers, and what it leaves in the working buffers.
-use Rattle.std.proofs.Common.{◌≡◌, ℕ, ◌-◌, ◌<◌, ◌≤◌, ◌⊎◌, List, length, take, Ok, Err, Option, Result, sym, ap, ◌∙◌, subst, inl, inr, ⊎_elim, arith}
+use Rattle.std.proofs.Common.{◌≡◌, ℕ, ◌-◌, ◌≤◌, List, length, take, Ok, Err, Option, Result, sym, ap, ◌∙◌, subst, inr, ⊎_elim, arith}
 use Rattle.std.proofs.lemmas.List.{length-map, length-take}
 use Rattle.duty.specs.declared.Duty.{Duty}
 use Rattle.duty.specs.Duties.{letter_of}
 use Rattle.rules.specs.declared.breach.Violation.{Violation}
 use Rattle.rules.specs.declared.refusal.Refusal.{Refusal}
-use Rattle.rules.specs.Refusals.{number}
 use Rattle.planning.specs.declared.Stop.{Stop}
 use Rattle.planner.specs.History.{width, span}
 use Rattle.planner.specs.Plans.{Ready, Solved, Schedule, Planned, Left}

@@ -1,13 +1,13 @@
 -- The invariant of the search's loop, and what it shows when the loop ends. The section's hypotheses are those of planning's
 -- proofs/Search.antt: a book with its laws, a sound start, and a tour of stops that each have a service.
---   Going .. k trail F t         F are the right labels of the quarter now + t, at most k; the trail leads back from each of them;
---                        no letters have served the tour yet; and at no earlier quarter were more than k labels needed
---   going-alive, going_dead      at the start, whatever the trail
---   going_sound          the row of each label is sound
---   going_next           one quarter on, where none of the labels serves the tour and the smallest cover is no more than k
---   going-crowded        that cover is more than k
---   going-ends, going-last       a label serves the tour at its last work; or none does, and the time is over
---   none_now             nothing ends by `now`
+--   Going .. k trail F t      F are the right labels of the quarter now + t, at most k; the trail leads back from each of them;
+--                             no letters have served the tour yet; and at no earlier quarter were more than k labels needed
+--   going-alive, going_dead   at the start, whatever the trail
+--   going_sound               the row of each label is sound
+--   going_next                one quarter on, where none of the labels serves the tour and the smallest cover is no more than k
+--   going-crowded             that cover is more than k
+--   going-ends, going-last    a label serves the tour at its last work; or none does, and the time is over
+--   none_now                  nothing ends by `now`
 use Rattle.std.proofs.Common.{◌≡◌, ℕ, suc, ◌+◌, ◌*◌, ◌<◌, ◌≤◌, true, false, List, [], ◌∷◌, ◌++◌, length, get_or, Some, None, Option, sym, refl, ap, ◌∙◌, subst, inl, inr, arith}
 use Rattle.std.proofs.lemmas.Bool.{cases_lt}
 use Rattle.duty.specs.declared.Duty.{Duty}

@@ -1,11 +1,10 @@
 -- The labels of a layer: what is in `candidates` and `layer`, and that each comes by a move. Assumes nothing.
---   alive-true, true-alive       the test `alive` says that a label is Alive
---   move_from            a move gives the label that it leads to the `from` that it is told
---   layer_from           what is in a layer comes by a move from one of the labels, and is alive
---   layer_has            what a label moves to is in the layer if it is alive
---   chosen_from          so does what stands at a place of a list chosen from a layer
-use Rattle.std.proofs.Common.{◌≡◌, ℕ, zero, suc, ◌+◌, ◌*◌, ◌<◌, ◌≤◌, Bool, true, false, cond, eqb, ◌⊎◌, List, [], ◌∷◌, ◌++◌, length, get_or, Some, None, Option, sym, refl, ap, ◌∙◌, subst, inl, inr, ⊎_elim, arith}
-use Rattle.std.proofs.lemmas.List.{length-append, append-nil, append_assoc}
+--   alive-true, true-alive   the test `alive` says that a label is Alive
+--   move_from                a move gives the label that it leads to the `from` that it is told
+--   layer_from               what is in a layer comes by a move from one of the labels, and is alive
+--   layer_has                what a label moves to is in the layer if it is alive
+--   chosen_from              so does what stands at a place of a list chosen from a layer
+use Rattle.std.proofs.Common.{◌≡◌, ℕ, zero, suc, ◌+◌, ◌<◌, ◌≤◌, Bool, true, false, cond, eqb, ◌⊎◌, List, [], ◌∷◌, length, get_or, Some, None, Option, sym, refl, ap, ◌∙◌, subst, inl, inr, ⊎_elim, arith}
 use Rattle.std.proofs.lemmas.Bool.{ltb-true, leb-true, lt-ltb, le-leb, eq-eqb, ne_eqb, or_cases, or_left, or_right, cond-true, cond-false, true≢false}
 use Rattle.duty.specs.declared.Duty.{Duty}
 use Rattle.duty.specs.declared.Duty.TheVariants.{Rest, Work, Drive}

@@ -1,5 +1,5 @@
 -- Offers to a frontier with a place left, and the front of the places that it had. Assumes nothing.
-use Rattle.std.proofs.Common.{◌≡◌, ℕ, ◌+◌, ◌<◌, ◌≤◌, true, cond, List, [], ◌∷◌, ◌++◌, length, take, IfOk, Some, Ok, Err, Option, Result, sym, ap, ◌∙◌, subst, arith, MatchResult}
+use Rattle.std.proofs.Common.{◌≡◌, ℕ, ◌+◌, ◌<◌, ◌≤◌, true, List, [], ◌∷◌, ◌++◌, length, take, IfOk, Some, Ok, Err, Option, Result, sym, ap, ◌∙◌, subst, arith, MatchResult}
 use Rattle.std.proofs.lemmas.List.{length-take}
 use Rattle.std.proofs.lemmas.Bool.{cond-true}
 use Rattle.frontier.specs.Cover.{SmallestCover, StillSmallest}

@@ -1,5 +1,5 @@
 -- A plan by the card and the tour, in the words of the promise.
-use Rattle.std.proofs.Common.{◌≡◌, ℕ, ◌+◌, ◌<◌, ◌≤◌, ◌⊎◌, List, length, IfOk, Ok, Err, Option, Result, sym, refl, ap, subst, inl, inr, ⊎_elim, arith}
+use Rattle.std.proofs.Common.{ℕ, ◌+◌, ◌<◌, ◌≤◌, List, length, IfOk, Ok, Err, Option, Result, refl, subst, inl, inr, arith}
 use Rattle.duty.specs.declared.Duty.{Duty}
 use Rattle.rules.specs.declared.breach.Violation.{Violation}
 use Rattle.rules.specs.Walk.{led, Allowed}

@@ -9,7 +9,7 @@ use Rattle.rules.proofs.Walk.{allowed-append, allowed_rest}
 use Rattle.planning.specs.Labels.{Needed}
 use Rattle.planning.specs.Serving.{Serves}
 use Rattle.planning.proofs.Stretches.{serve_bound}
-use Rattle.planner.specs.History.{History, now_of, last_stop, span, Completes, Counts}
+use Rattle.planner.specs.History.{History, now_of, last_stop, span, Completes}
 use Rattle.planner.specs.Outcome.{Unended, Few, NoneEnds, Crowds}
 use Rattle.planner.specs.Plans.{Schedule}
 use Rattle.planner.specs.Promise.{row_of, Crowded, Infeasible, PlannedEnd}

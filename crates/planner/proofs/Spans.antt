@@ -1,5 +1,5 @@
 -- The span of a tour lies within the horizon.
-use Rattle.std.proofs.Common.{◌≡◌, ℕ, ◌+◌, ◌-◌, ◌<◌, ◌≤◌, List, length, sym, ap, ◌∙◌, subst, arith}
+use Rattle.std.proofs.Common.{◌≡◌, ℕ, ◌+◌, ◌-◌, ◌<◌, ◌≤◌, List, length, sym, subst, arith}
 use Rattle.planning.specs.declared.Stop.{Stop}
 use Rattle.planning.specs.Labels.{stop_at}
 use Rattle.planner.specs.declared.tour.Tour.{Tour}

@@ -1,6 +1,6 @@
 -- Each call leaves a card and a tour that stand for the history after it.
-use Rattle.std.proofs.Common.{◌≡◌, ℕ, suc, ◌+◌, ◌-◌, ◌<◌, ◌≤◌, true, ◌⊎◌, List, [], ◌∷◌, ◌++◌, length, take, replicate, is_some, Some, None, Ok, Err, Option, Result, sym, refl, ap, ◌∙◌, subst, inl, inr, ⊎_elim, zero-add, add-one, arith}
-use Rattle.std.proofs.lemmas.List.{append_assoc, length-append, length-replicate, replicate_more, take_at, length_push}
+use Rattle.std.proofs.Common.{◌≡◌, ℕ, ◌+◌, ◌-◌, ◌<◌, ◌≤◌, true, List, [], ◌∷◌, ◌++◌, length, take, replicate, is_some, Some, None, Ok, Err, Option, Result, sym, refl, ap, ◌∙◌, subst, inl, inr, ⊎_elim, zero-add, arith}
+use Rattle.std.proofs.lemmas.List.{length-append, length-replicate, replicate_more, take_at, length_push}
 use Rattle.std.proofs.lemmas.Bool.{false≢true}
 use Rattle.duty.specs.declared.Duty.{Duty}
 use Rattle.duty.specs.Duties.{duty_of}
@@ -13,12 +13,12 @@ use Rattle.rules.specs.Walk.{led, Allowed}
 use Rattle.rules.specs.LayersLemmas.{some-none}
 use Rattle.rules.proofs.Walk.{led-append, allowed-append, allowed_rest, allowed-last}
 use Rattle.planning.specs.declared.Stop.{Stop}
-use Rattle.planner.specs.declared.call.Call.TheVariants.{Record, Add, Drop, Plan}
+use Rattle.planner.specs.declared.call.Call.TheVariants.{Record, Add, Drop}
 use Rattle.planner.specs.History.{History, now_of}
 use Rattle.planner.specs.Promise.{Answers, FirstUnlawful}
 use Rattle.planner.specs.Recorded.{Recorded, RefusedRecord, Added, Stopped}
 use Rattle.planner.specs.Standing.{StandsFor, answer_of}
-use Rattle.planner.specs.Toured.{stop_of, PutLast, TakenOff}
+use Rattle.planner.specs.Toured.{PutLast, TakenOff}
 
 some_of : {X : Type 0} (o : Option X) → is_some o ≡ true → (x : X) × (o ≡ Some x)
 some_of None e = absurd (false≢true e)

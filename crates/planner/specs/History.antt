@@ -1,7 +1,7 @@
 -- The history of a card and a tour: the quarters recorded and the stops left, fed the arguments of calls alone. Assumes nothing.
---   Completes lawful h ls e      the letters ls after the recorded log are lawful and serve the stops left, and end at e
---   width, span          a sheet's labels for a quarter, and the quarters that a schedule can take
---   Counts .. q          a quarter of the span at which no such letters have ended yet
+--   Completes lawful h ls e   the letters ls after the recorded log are lawful and serve the stops left, and end at e
+--   width, span               a sheet's labels for a quarter, and the quarters that a schedule can take
+--   Counts .. q               a quarter of the span at which no such letters have ended yet
 use Rattle.std.specs.Prelude.{◌≡◌, ℕ, ◌+◌, ◌-◌, ◌/◌, ◌<◌, ◌≤◌, List, [], ◌++◌, length}
 use Rattle.duty.specs.declared.Duty.{Duty}
 use Rattle.planning.specs.declared.Stop.{Stop}

@@ -1,9 +1,9 @@
 -- What a search from `now` on has shown. Assumes nothing.
---   Unended .. q         no lawful letters serve the tour with an end up to q
---   Few .. k q           at most k labels are needed at quarter q
---   Ends .. k span trail t j     the first end is after quarter now + t, and the trail leads there from the j-th label
---   NoneEnds .. k span          no lawful letters serve the tour by now + span
---   Crowds .. k span             more than k labels are needed at a quarter at which none has ended yet
+--   Unended .. q               no lawful letters serve the tour with an end up to q
+--   Few .. k q                 at most k labels are needed at quarter q
+--   Ends .. k span trail t j   the first end is after quarter now + t, and the trail leads there from the j-th label
+--   NoneEnds .. k span         no lawful letters serve the tour by now + span
+--   Crowds .. k span           more than k labels are needed at a quarter at which none has ended yet
 use Rattle.std.specs.Prelude.{ℕ, ◌+◌, ◌<◌, ◌≤◌, List, [], ◌∷◌, ◌++◌, length, Option}
 use Rattle.duty.specs.declared.Duty.{Duty}
 use Rattle.duty.specs.declared.Duty.TheVariants.{Work}

@@ -1,12 +1,12 @@
 -- What plan answers, by the card's row and quarter and the tour's stops, and what it leaves in the buffers. Assumes nothing.
---   Unready .. r         the first of the refusals 6 to 9 that applies
---   Ready ..             none of them applies
---   Sized .. r           the width and the span, or the first of those refusals
---   Schedule .. out e    the letters at the front of the output serve the tour lawfully and end at e, and no lawful others end earlier
---   Solved .. out r      a schedule; 10, no lawful letters serve the tour; 11, too many labels are needed
---   Planned .. r         the answer to any call
---   Left r before after cleared    what a working buffer holds then: after 6 to 9 what it held, else it is cleared
---   OutputLeft now r before after    what the output holds behind the letters
+--   Unready .. r                    the first of the refusals 6 to 9 that applies
+--   Ready ..                        none of them applies
+--   Sized .. r                      the width and the span, or the first of those refusals
+--   Schedule .. out e               the letters at the front of the output serve the tour lawfully and end at e, and no lawful others end earlier
+--   Solved .. out r                 a schedule; 10, no lawful letters serve the tour; 11, too many labels are needed
+--   Planned .. r                    the answer to any call
+--   Left r before after cleared     what a working buffer holds then: after 6 to 9 what it held, else it is cleared
+--   OutputLeft now r before after   what the output holds behind the letters
 use Rattle.std.specs.Prelude.{◌≡◌, ℕ, ◌+◌, ◌-◌, ◌*◌, ◌<◌, ◌≤◌, ◌⊎◌, List, [], map, length, take, drop, Ok, Err, Option, Result}
 use Rattle.duty.specs.declared.Duty.{Duty}
 use Rattle.duty.specs.Duties.{letter_of}

@@ -1,9 +1,9 @@
 -- The promise: which answer fits a call, by the history alone, and a whole run of calls. Assumes nothing.
---   Needs .. h q n           n is the number of labels needed at quarter q
---   Recording, Adding, Dropping, Planning    which answer fits the call, and the history after it
---   Exactly .. h k a         11 exactly where too many labels are needed, and else 10 exactly where no letters complete the log
---   Kept .. h calls answers  each answer fits its call in turn
-use Rattle.std.specs.Prelude.{◌≡◌, ℕ, ◌+◌, ◌-◌, ◌*◌, ◌<◌, ◌≤◌, ◌⊎◌, List, [], ◌∷◌, ◌++◌, map, length, take, replicate, Some, None, vec_items, Option}
+--   Needs .. h q n                          n is the number of labels needed at quarter q
+--   Recording, Adding, Dropping, Planning   which answer fits the call, and the history after it
+--   Exactly .. h k a                        11 exactly where too many labels are needed, and else 10 exactly where no letters complete the log
+--   Kept .. h calls answers                 each answer fits its call in turn
+use Rattle.std.specs.Prelude.{◌≡◌, ℕ, ◌+◌, ◌-◌, ◌<◌, ◌≤◌, ◌⊎◌, List, [], ◌∷◌, ◌++◌, map, length, take, replicate, Some, None, vec_items, Option}
 use Rattle.duty.specs.declared.Duty.{Duty}
 use Rattle.duty.specs.Duties.{letter_of, duty_of}
 use Rattle.rules.specs.declared.breach.Breach.{Breach}

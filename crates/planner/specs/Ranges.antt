@@ -1,5 +1,5 @@
 -- Which stops a tour can have. Assumes nothing.
---   InRange stop              the stop's figures are within the horizon
+--   InRange stop             the stop's figures are within the horizon
 --   AllInRange stops count   so are the first count stops
 use Rattle.std.specs.Prelude.{ℕ, ◌+◌, ◌<◌, ◌≤◌, List}
 use Rattle.planning.specs.declared.Stop.{Stop}

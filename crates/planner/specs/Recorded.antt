@@ -1,13 +1,13 @@
 -- What becomes of a card when a status is recorded for some quarters. Assumes nothing.
---   names, after         a book, by the rows of its states: what it names at a quarter, and the next row
---   row, now             the card's: the row of its state, and the quarter that it stands before
---   Breached .. x b      the quarters of the status x before b's are allowed, and b is what the book then names
---   Carried .. x row' o          what is found in count quarters of x: no breach, and the row that they lead to, or the first breach
---   Fitting now count            count is not 0, and so many quarters are left
---   Added .. row' now'           the letter's status is allowed for all the quarters, and they are added
---   Stopped .. why               they fit, and the first breach is the refusal
---   RefusedRecord .. why        the refusals in their order: no letter, a count out of range, the first breach
---   Recorded .. row' now' r      the quarters are added, or they are refused and nothing changes
+--   names, after              a book, by the rows of its states: what it names at a quarter, and the next row
+--   row, now                  the card's: the row of its state, and the quarter that it stands before
+--   Breached .. x b           the quarters of the status x before b's are allowed, and b is what the book then names
+--   Carried .. x row' o       what is found in count quarters of x: no breach, and the row that they lead to, or the first breach
+--   Fitting now count         count is not 0, and so many quarters are left
+--   Added .. row' now'        the letter's status is allowed for all the quarters, and they are added
+--   Stopped .. why            they fit, and the first breach is the refusal
+--   RefusedRecord .. why      the refusals in their order: no letter, a count out of range, the first breach
+--   Recorded .. row' now' r   the quarters are added, or they are refused and nothing changes
 use Rattle.std.specs.Prelude.{◌≡◌, ℕ, ◌+◌, ◌-◌, ◌<◌, ◌≤◌, true, ◌⊎◌, replicate, is_some, Some, None, Ok, Err, Option, Result}
 use Rattle.duty.specs.declared.Duty.{Duty}
 use Rattle.duty.specs.Duties.{duty_of}

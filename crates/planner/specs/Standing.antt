@@ -1,8 +1,8 @@
 -- A card and a tour beside a history. Assumes nothing.
---   StandsFor .. h          the card's row and quarter are where the recorded log leads, and the tour's stops are those left
---   AnswersPlan .. a        the answer to a plan, by the card and the tour
---   AnswersCall .. a        whatever history they stand for, the answer fits it, and they stand for the history after it
---   answer_of r              done, or refused
+--   StandsFor .. h     the card's row and quarter are where the recorded log leads, and the tour's stops are those left
+--   AnswersPlan .. a   the answer to a plan, by the card and the tour
+--   AnswersCall .. a   whatever history they stand for, the answer fits it, and they stand for the history after it
+--   answer_of r        done, or refused
 use Rattle.std.specs.Prelude.{◌≡◌, ℕ, ◌-◌, ◌⊎◌, List, length, take, Ok, Err, vec_items, Option, Result}
 use Rattle.duty.specs.declared.Duty.{Duty}
 use Rattle.rules.specs.declared.breach.Violation.{Violation}

@@ -1,7 +1,7 @@
 -- Driving by day. Assumes nothing.
---   ByDay q       quarter q lies in the day's quarters 24 to 79
+--   ByDay q      quarter q lies in the day's quarters 24 to 79
 --   AllByDay l   every driving quarter of the log does
---   day_names      rule 20 for driving at another quarter
+--   day_names    rule 20 for driving at another quarter
 use Rattle.std.specs.Prelude.{◌≡◌, ℕ, ◌%◌, ◌<◌, ◌≤◌, cond, List, length, Some, None, Option, nat_le}
 use Rattle.duty.specs.declared.Duty.{Duty}
 use Rattle.duty.specs.declared.Duty.TheVariants.{Rest, Work, Drive}

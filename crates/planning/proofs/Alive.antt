@@ -9,7 +9,7 @@ use Rattle.rules.specs.declared.breach.Violation.{Violation}
 use Rattle.planning.specs.declared.Label.{Label}
 use Rattle.planning.specs.declared.Stop.{Stop}
 use Rattle.planning.specs.Labels.{stop_at, Alive, Covers}
-use Rattle.planning.specs.Moves.{begun, ready, lead, move, serves_all}
+use Rattle.planning.specs.Moves.{ready, lead, move, serves_all}
 use Rattle.planning.proofs.Leads.{rested, driven, ready_parts, serves_parts, lead_rest, lead_drive, lead_work, move_parts}
 
 module _ {R : Type 0} (stops : List Stop) (q : ℕ) where

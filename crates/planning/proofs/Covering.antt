@@ -1,5 +1,5 @@
 -- Covering is reflexive and transitive where `better` is, and of sensible labels it says what the code tests.
-use Rattle.std.proofs.Common.{◌≡◌, ℕ, ◌≤◌, List, refl, ap, ◌∙◌, inl, inr, ⊎_elim, arith}
+use Rattle.std.proofs.Common.{◌≡◌, ℕ, List, refl, ap, ◌∙◌, inl, inr, ⊎_elim, arith}
 use Rattle.std.proofs.lemmas.Bool.{cases_lt}
 use Rattle.planning.specs.declared.Label.{Label}
 use Rattle.planning.specs.declared.Stop.{Stop}

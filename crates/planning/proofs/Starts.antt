@@ -1,7 +1,7 @@
 -- The labels of no letters, and what every reached label keeps, over stops that each have a service.
---   Sensible stops a     a's stop is one of the tour's, some service is left and no more than the stop's, and once the service has
---                        begun all the driving is done
---   start_reached, start_only    no letters lead to the label at the tour's beginning, and to that alone but for `from`
+--   Sensible stops a            a's stop is one of the tour's, some service is left and no more than the stop's, and once the service has
+--                               begun all the driving is done
+--   start_reached, start_only   no letters lead to the label at the tour's beginning, and to that alone but for `from`
 use Rattle.std.proofs.Common.{◌≡◌, ℕ, ◌+◌, ◌-◌, ◌<◌, ◌≤◌, List, [], ◌++◌, length, take, Option, refl, ap, ◌∙◌, subst, inl, inr, arith}
 use Rattle.std.proofs.lemmas.List.{length-append, length-replicate, nil_from_length}
 use Rattle.std.proofs.lemmas.Bool.{cases_eq}

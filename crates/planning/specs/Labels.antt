@@ -1,14 +1,14 @@
 -- Which labels can be reached, which are alive, which covers which, and how many are needed. Assumes nothing.
---   names, after         a book, by the rows of its states: what it names at a quarter, and the next row
---   start, now           the row of the state at quarter `now`, before which all has been recorded
---   Partway stop p part d w    the letters `part`, from quarter p on, leave d of the stop's driving and w of its service:
---                        travel with at most the stop's driving, or a stretch broken off between two quarters of work
---   Reached .. ls a      the letters ls are lawful from `now` on and lead to the label a
---   Reachable .. q a     some letters from `now` to before q lead to a
---   Begun, Alive         the current stop's service has begun; or it can still begin by its close
---   Covers better a b    a is at the same stop, at least as well off, and as far with the service or no less far with the driving
---   Needed .. q n        n is the least number of alive reachable labels at q that cover all of those
-use Rattle.std.specs.Prelude.{◌≡◌, ℕ, ◌+◌, ◌<◌, ◌≤◌, ◌⊎◌, List, [], ◌∷◌, ◌++◌, length, take, replicate, Option, slice_index_or}
+--   names, after              a book, by the rows of its states: what it names at a quarter, and the next row
+--   start, now                the row of the state at quarter `now`, before which all has been recorded
+--   Partway stop p part d w   the letters `part`, from quarter p on, leave d of the stop's driving and w of its service:
+--                             travel with at most the stop's driving, or a stretch broken off between two quarters of work
+--   Reached .. ls a           the letters ls are lawful from `now` on and lead to the label a
+--   Reachable .. q a          some letters from `now` to before q lead to a
+--   Begun, Alive              the current stop's service has begun; or it can still begin by its close
+--   Covers better a b         a is at the same stop, at least as well off, and as far with the service or no less far with the driving
+--   Needed .. q n             n is the least number of alive reachable labels at q that cover all of those
+use Rattle.std.specs.Prelude.{◌≡◌, ℕ, ◌+◌, ◌<◌, ◌≤◌, ◌⊎◌, List, ◌++◌, length, take, replicate, Option, slice_index_or}
 use Rattle.duty.specs.declared.Duty.{Duty}
 use Rattle.duty.specs.declared.Duty.TheVariants.{Work}
 use Rattle.duty.specs.Duties.{driving}

@@ -2,7 +2,7 @@
 --   begun, ready         the tests: the service has begun; work may stand at quarter q
 --   move .. f a x        the label after the status x at quarter q, if there is one, with `from` f; none at the last work of a tour
 --   serves_all .. a      whether work at quarter q serves the tour's last quarter
-use Rattle.std.specs.Prelude.{ℕ, ◌+◌, ◌-◌, Bool, true, false, cond, not, ◌&&◌, ◌||◌, List, length, is_some, Some, None, Option, ◌==◌, nat_le, nat_lt}
+use Rattle.std.specs.Prelude.{ℕ, ◌+◌, ◌-◌, Bool, cond, not, ◌&&◌, ◌||◌, List, length, is_some, Some, None, Option, ◌==◌, nat_le, nat_lt}
 use Rattle.duty.specs.declared.Duty.{Duty}
 use Rattle.duty.specs.declared.Duty.TheVariants.{Rest, Work, Drive}
 use Rattle.rules.specs.declared.breach.Violation.{Violation}

@@ -1,6 +1,6 @@
 -- A reply line by line.
-use Rattle.std.proofs.Common.{◌≡◌, ℕ, ◌+◌, ◌<◌, ◌≤◌, List, [], ◌∷◌, ◌++◌, length, get_or, drop, Ok, Err, Result, sym, refl, ap, ◌∙◌, subst, arith}
-use Rattle.std.proofs.lemmas.List.{append_assoc, drop_more, length-append}
+use Rattle.std.proofs.Common.{◌≡◌, ℕ, ◌+◌, ◌<◌, List, ◌∷◌, ◌++◌, length, get_or, drop, Ok, Result, sym, refl, ap, ◌∙◌, subst}
+use Rattle.std.proofs.lemmas.List.{drop_more, length-append}
 use Rattle.std.specs.Option.{option_to_list}
 use Rattle.rules.specs.declared.refusal.Refusal.{Refusal}
 use Rattle.planner.specs.declared.call.Answer.{Answer}

@@ -1,5 +1,5 @@
 -- What is printed for a text, by the answer to it.
-use Rattle.std.proofs.Common.{◌≡◌, ℕ, List, ◌++◌, length, take, drop, Ok, Err, vec_items, vec_len, string_bytes, Vec, String, sym, ap, ◌∙◌, subst, inl, inr, arith}
+use Rattle.std.proofs.Common.{◌≡◌, ℕ, List, length, take, drop, Ok, Err, vec_items, vec_len, string_bytes, Vec, String, sym, ap, ◌∙◌, subst, inl, inr, arith}
 use Rattle.std.proofs.lemmas.List.{take_at, length-append, length-drop, with_items_is}
 use Rattle.std.specs.Vec.{with_items}
 use Rattle.std.specs.String.{string_vec}

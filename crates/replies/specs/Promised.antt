@@ -1,11 +1,11 @@
 -- What is promised of a whole text. Assumes nothing.
---   KeptUnder set calls answers     each answer fits its call in turn, on a new card and a new tour under that rule set, where a log is
---                                    lawful when it keeps the sentences of the set
---   AnswersUnder set h call a h'    the answer a fits the call after the history h under that set, and h' is the history then
---   BreachesFirst                   a breach that refuses a record is the first breach, by the sentences of the set, of the log that
---                                    the record would have made
---   Reply text reply                 the reply spells answers that keep this promise for the calls that the text asks for
---   Answered text before after r     the answer r to a text, where the output held before and holds after
+--   KeptUnder set calls answers    each answer fits its call in turn, on a new card and a new tour under that rule set, where a log is
+--                                  lawful when it keeps the sentences of the set
+--   AnswersUnder set h call a h'   the answer a fits the call after the history h under that set, and h' is the history then
+--   BreachesFirst                  a breach that refuses a record is the first breach, by the sentences of the set, of the log that
+--                                  the record would have made
+--   Reply text reply               the reply spells answers that keep this promise for the calls that the text asks for
+--   Answered text before after r   the answer r to a text, where the output held before and holds after
 use Rattle.std.specs.Prelude.{◌≡◌, ℕ, ◌<◌, ◌≤◌, ◌⊎◌, List, ◌++◌, length, drop, replicate, Some, Ok, Err, Result}
 use Rattle.std.specs.declared.alloc.AllocError.{AllocError}
 use Rattle.duty.specs.declared.Duty.{Duty}
@@ -27,7 +27,7 @@ use Rattle.planner.specs.declared.call.Call.TheVariants.{Record}
 use Rattle.planner.specs.History.{History, fresh}
 use Rattle.planner.specs.Promise.{Answers, Kept}
 use Rattle.lines.specs.declared.line.Line.{Line}
-use Rattle.lines.specs.Texts.{Read_from, set_read, calls_read}
+use Rattle.lines.specs.Texts.{ReadFrom, set_read, calls_read}
 use Rattle.replies.specs.Replies.{Replied}
 
 abbrev pub KeptUnder : RuleSet → List Call → List Answer → Type 0
@@ -46,7 +46,7 @@ BreachesFirst =
 
 pub record Reply (text reply : List ℕ) : Type 0 where
   pub readings : List (Result Line Refusal)
-  pub read : Read_from 1 text readings
+  pub read : ReadFrom 1 text readings
   pub answers : List Answer
   pub kept : KeptUnder (set_read readings) (calls_read readings) answers
   pub spelled : Replied 1 readings answers reply

@@ -1,7 +1,7 @@
 -- The reply to a text, by what its lines say and the answers to their calls. Assumes nothing.
---   LineReplied n r as lines as'    the lines that answer line n, which says r; its call, if it asks for one, is answered by the first of
---                                    the answers as, and as' are the answers left
---   Replied n rs as reply            the reply to the lines that say rs, from line n on, by the answers as, each to its call
+--   LineReplied n r as lines as'   the lines that answer line n, which says r; its call, if it asks for one, is answered by the first of
+--                                  the answers as, and as' are the answers left
+--   Replied n rs as reply          the reply to the lines that say rs, from line n on, by the answers as, each to its call
 use Rattle.std.specs.Prelude.{◌≡◌, ℕ, ◌+◌, List, [], ◌∷◌, ◌++◌, Ok, Err, Result}
 use Rattle.rules.specs.declared.refusal.Refusal.{Refusal}
 use Rattle.planner.specs.declared.call.Answer.{Answer}

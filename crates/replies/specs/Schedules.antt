@@ -1,6 +1,6 @@
 -- A schedule's letters as runs. Assumes nothing.
---   Differs x letters            the first of the letters, if there is one, is not x
---   RunsFrom q letters runs     the letters, from quarter q on, are these runs: each as long as it can be, and none empty
+--   Differs x letters         the first of the letters, if there is one, is not x
+--   RunsFrom q letters runs   the letters, from quarter q on, are these runs: each as long as it can be, and none empty
 use Rattle.std.specs.Prelude.{◌≡◌, ℕ, ◌+◌, ◌<◌, List, [], ◌∷◌, ◌++◌, replicate}
 use Rattle.replies.specs.declared.runs.Run.{Run}
 

@@ -1,8 +1,8 @@
 -- Answers spelled as lines, each ended with byte 10. Assumes nothing.
---   run_line run             a run: its first quarter, its letter and its length
---   refused_line n why       the line n was refused, with the refusal's number, and for a breach its quarter, rule and layer
+--   run_line run                    a run: its first quarter, its letter and its length
+--   refused_line n why              the line n was refused, with the refusal's number, and for a breach its quarter, rule and layer
 --   PlanLines n end letters lines   the lines of a plan that line n asks for: its runs and its end
---   AnswerLines n a lines   the lines that answer line n, where its call is answered by a
+--   AnswerLines n a lines           the lines that answer line n, where its call is answered by a
 use Rattle.std.specs.Prelude.{◌≡◌, ℕ, ◌-◌, List, [], ◌∷◌, ◌++◌, length, vec_items, codes, decimal}
 use Rattle.std.specs.List.{flat_map}
 use Rattle.rules.specs.declared.refusal.Refusal.{Refusal}

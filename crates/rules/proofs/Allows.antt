@@ -1,5 +1,5 @@
 -- Whether each status of a log is allowed in turn, by computation.
-use Rattle.std.proofs.Common.{◌≡◌, ℕ, ◌+◌, Bool, true, false, not, ◌&&◌, List, [], ◌∷◌, is_some, Some, None, Option, refl}
+use Rattle.std.proofs.Common.{◌≡◌, ℕ, ◌+◌, Bool, true, not, ◌&&◌, List, [], ◌∷◌, is_some, Some, None, Option, refl}
 use Rattle.std.proofs.lemmas.Bool.{and_parts, false≢true}
 use Rattle.duty.specs.declared.Duty.{Duty}
 use Rattle.rules.specs.Walk.{Allowed}

@@ -1,5 +1,5 @@
 -- The judge's loop: what is known of the statuses read so far, one status more, and at the end.
-use Rattle.std.proofs.Common.{◌≡◌, ℕ, suc, ◌+◌, ◌<◌, ◌≤◌, min, true, List, [], ◌∷◌, ◌++◌, length, get_or, take, is_some, Some, None, Ok, Option, unwrap_or, sym, refl, ap, ◌∙◌, subst, zero-add, arith}
+use Rattle.std.proofs.Common.{◌≡◌, ℕ, ◌+◌, ◌<◌, ◌≤◌, min, true, List, [], ◌∷◌, ◌++◌, length, get_or, take, is_some, Some, None, Ok, Option, unwrap_or, sym, refl, ap, ◌∙◌, subst, zero-add, arith}
 use mathlib.Core.Path.{subst₃}
 use Rattle.std.proofs.lemmas.List.{take_all, length-map, map_more, length-take, length-take-le, take_at, take-append-le, take_more, get_or_append_left, get_or_push, length_push}
 use Rattle.std.specs.Option.{option_or}
@@ -12,7 +12,7 @@ use Rattle.rules.specs.declared.breach.Violation.{Violation}
 use Rattle.rules.specs.Judged.{breach_at, lawful_length, Found, Judged}
 use Rattle.rules.specs.Walk.{led, Allowed}
 use Rattle.rules.specs.LayersLemmas.{some-none}
-use Rattle.rules.proofs.Walk.{led-push, allowed-push, allowed-front, allowed-last}
+use Rattle.rules.proofs.Walk.{led-push, allowed-push, allowed-last}
 
 module _ {S : Type 0} (names : S → ℕ → Duty → Option Violation) (after : S → ℕ → Duty → S) (s : S) where
   -- the statuses read so far are allowed and lead to this state, or have this first breach

@@ -1,5 +1,5 @@
 -- One status more at the end of a walk.
-use Rattle.std.proofs.Common.{◌≡◌, ℕ, suc, ◌+◌, List, [], ◌∷◌, ◌++◌, length, None, Option, sym, refl, ap, ◌∙◌, subst, arith}
+use Rattle.std.proofs.Common.{◌≡◌, ℕ, ◌+◌, List, [], ◌∷◌, ◌++◌, length, None, Option, ap, ◌∙◌, subst, arith}
 use Rattle.duty.specs.declared.Duty.{Duty}
 use Rattle.rules.specs.Walk.{led, Allowed}
 

@@ -1,6 +1,6 @@
 -- A book over another: what both allow is allowed, and a log is allowed exactly when each allows it.
 use Rattle.std.specs.Prelude.{◌≡◌, ℕ, ◌+◌, min, ◌⊎◌, List, [], ◌∷◌, Some, None, Option, ◌≢◌, refl}
-use Rattle.std.proofs.Common.{inl, inr, sym, ap, ap₂, subst, ◌∙◌, arith}
+use Rattle.std.proofs.Common.{inl, inr, sym, ap, subst, ◌∙◌, arith}
 use Rattle.duty.specs.declared.Duty.{Duty}
 use Rattle.rules.specs.declared.breach.Violation.{Violation}
 use Rattle.rules.specs.declared.layered.Stacked.{Stacked}

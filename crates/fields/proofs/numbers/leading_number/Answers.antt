@@ -1,4 +1,4 @@
-use Rattle.std.proofs.Common.{◌≡◌, ◌∷◌, ◌++◌, decimal, sym, ◌∙◌, subst}
+use Rattle.std.proofs.Common.{decimal, sym, ◌∙◌, subst}
 use Rattle.fields.proofs.Cutting.{lacks_not, parted_once}
 use Rattle.fields.proofs.Numerals.{decimal_spells, lacks_comma}
 use Rattle.fields.specs.Cuts.{Lacks}

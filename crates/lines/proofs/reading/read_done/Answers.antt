@@ -1,9 +1,9 @@
-use Rattle.std.proofs.Common.{◌≡◌, ℕ, ◌<◌, ◌≤◌, List, [], ◌∷◌, ◌++◌, length, get_or, decimal, sym, refl, ap, ◌∙◌, subst, arith}
+use Rattle.std.proofs.Common.{◌≡◌, ◌≤◌, [], ◌∷◌, ◌++◌, length, get_or, decimal, sym, refl, ap, ◌∙◌, subst, arith}
 use Rattle.fields.proofs.Cutting.{lacks_not}
 use Rattle.fields.proofs.Numerals.{decimal_spells, spells_decimal}
 use Rattle.fields.specs.Cuts.{Lacks}
 use Rattle.fields.specs.Numbers.{Spells}
-use Rattle.lines.proofs.Spellings.{done_fields, done_parts, done_reads, not_done}
+use Rattle.lines.proofs.Spellings.{done_parts, done_reads, not_done}
 use Rattle.lines.proofs.reading.read_done.Goals as goal
 
 pub returns-in_default : goal.returns-in_default

@@ -1,4 +1,4 @@
-use Rattle.std.proofs.Common.{◌≡◌, List, [], ◌∷◌, ◌++◌, decimal, sym, refl, ap, ◌∙◌, subst}
+use Rattle.std.proofs.Common.{◌∷◌, ◌++◌, decimal, sym, refl, ap, ◌∙◌, subst}
 use Rattle.fields.proofs.Numerals.{decimal_spells, spells_decimal, led_once}
 use Rattle.fields.specs.Numbers.{Spells}
 use Rattle.lines.proofs.Spellings.{stop_reads, not_stop}

@@ -1,10 +1,10 @@
-use Rattle.std.proofs.Common.{◌≡◌, ◌+◌, List, [], ◌∷◌, ◌++◌, drop, Ok, vec_items, Option, sym, ap, ◌∙◌, subst}
+use Rattle.std.proofs.Common.{◌≡◌, ◌+◌, List, ◌++◌, drop, Ok, vec_items, Option, sym, ap, ◌∙◌}
 use Rattle.std.proofs.lemmas.List.{append_assoc, append-nil, at_drop_more, at_drop_all}
 use Rattle.std.specs.Option.{option_to_list}
 use Rattle.books.specs.declared.sets.RuleSet.TheVariants as set
 use Rattle.planner.specs.declared.call.Call.{Call}
 use Rattle.lines.specs.declared.line.Line.TheVariants as line
-use Rattle.lines.specs.Texts.{calls_read, call_read}
+use Rattle.lines.specs.Texts.{calls_read}
 use Rattle.lines.proofs.whole.calls_of.Goals as goal
 use Rattle.lines.proofs.whole.calls_of.Goals.{in-Some+in_ok-push, in_default}
 

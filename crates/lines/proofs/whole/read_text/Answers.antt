@@ -1,9 +1,9 @@
-use Rattle.std.proofs.Common.{◌≡◌, ◌+◌, ◌<◌, List, [], ◌∷◌, ◌++◌, length, vec_items, vec_len, sym, ap, ◌∙◌, subst, arith}
+use Rattle.std.proofs.Common.{◌≡◌, ◌+◌, ◌<◌, [], ◌∷◌, ◌++◌, length, vec_items, vec_len, sym, ap, ◌∙◌, subst, arith}
 use Rattle.std.proofs.lemmas.List.{append_assoc, append-nil, nil_from_length}
 use Rattle.std.proofs.lemmas.Bool.{eqb-true, eqb-false}
 use Rattle.fields.proofs.Cutting.{rest_shorter}
 use Rattle.lines.specs.Says.{Reads}
-use Rattle.lines.specs.Texts.{Read_from}
+use Rattle.lines.specs.Texts.{ReadFrom}
 use Rattle.lines.proofs.whole.read_text.Goals as goal
 
 pub loop-rest-smaller : goal.loop-rest-smaller
@@ -23,12 +23,12 @@ loop-rest-preserved c =
       omega (arith, c.loop-rest.invariant.0),
       λ more k.
           let pushed : vec_items c.push.new.self ++ more ≡ vec_items c.loop-rest.readings ++ (c.read_line.result ∷ more) = ap (λ xs. xs ++ more) c.in_ok-push.ensures.items ∙ append_assoc (vec_items c.loop-rest.readings) (c.read_line.result ∷ []) more in
-          subst (Read_from 1 c.args.text.now) (sym pushed)
+          subst (ReadFrom 1 c.args.text.now) (sym pushed)
           (c.loop-rest.invariant.1 (c.read_line.result ∷ more)
-          (c.first_line.result.0.now, after, some, c.first_line.ensures, subst (λ n. Reads (n + 1) c.first_line.result.0.now c.read_line.result) c.len-place.ensures c.read_line.ensures, subst (λ n. Read_from (n + 1) after more) count k)),
+          (c.first_line.result.0.now, after, some, c.first_line.ensures, subst (λ n. Reads (n + 1) c.first_line.result.0.now c.read_line.result) c.len-place.ensures c.read_line.ensures, subst (λ n. ReadFrom (n + 1) after more) count k)),
     )
 
 pub returns : goal.returns
 returns c =
     let empty : c.loop-rest.rest.now ≡ [] = nil_from_length _ (eqb-true (length c.loop-rest.rest.now) 0 (sym c.loop-rest-test.ensures)) in
-    subst (Read_from 1 c.args.text.now) (append-nil (vec_items c.loop-rest.readings)) (c.loop-rest.invariant.1 [] empty)
+    subst (ReadFrom 1 c.args.text.now) (append-nil (vec_items c.loop-rest.readings)) (c.loop-rest.invariant.1 [] empty)

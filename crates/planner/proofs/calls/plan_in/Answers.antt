@@ -1,4 +1,4 @@
-use Rattle.std.proofs.Common.{◌≡◌, ◌-◌, ◌≤◌, length, sym, ap, ◌∙◌, subst, arith, rules}
+use Rattle.std.proofs.Common.{◌-◌, ◌≤◌, length, arith, rules}
 use Rattle.planner.specs.Toured.{stops_of}
 use Rattle.planner.proofs.Answered.{schedule-within}
 use Rattle.planner.proofs.calls.plan_in.Goals as goal

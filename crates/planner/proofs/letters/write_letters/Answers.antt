@@ -1,4 +1,4 @@
-use Rattle.std.proofs.Common.{◌≡◌, ◌+◌, ◌-◌, ◌*◌, ◌<◌, ◌≤◌, length, set, ◌∙◌, subst, arith, rules}
+use Rattle.std.proofs.Common.{◌≡◌, ◌+◌, ◌-◌, ◌*◌, ◌<◌, length, set, ◌∙◌, subst, arith, rules}
 use Rattle.std.proofs.lemmas.List.{drop-set-lt, length-set}
 use Rattle.planner.proofs.Backward.{Writing, writing-first, writing_back, reads-within, writing-all}
 use Rattle.planner.proofs.letters.write_letters.Goals as goal

@@ -1,5 +1,5 @@
-use Rattle.std.proofs.Common.{◌≡◌, ◌+◌, ◌-◌, ◌*◌, ◌<◌, ◌≤◌, length, drop, sym, subst, mul-le-mul_right, arith}
-use Rattle.planner.specs.Outcome.{Searched, Ends}
+use Rattle.std.proofs.Common.{◌≡◌, ◌+◌, ◌-◌, ◌*◌, ◌≤◌, drop, sym, subst, mul-le-mul_right, arith}
+use Rattle.planner.specs.Outcome.{Searched}
 use Rattle.planner.proofs.Concluding.{ends-schedule}
 use Rattle.planner.proofs.plan.conclude.Goals as goal
 

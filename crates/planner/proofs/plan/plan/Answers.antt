@@ -1,4 +1,4 @@
-use Rattle.std.proofs.Common.{◌≡◌, ◌+◌, ◌*◌, ◌<◌, ◌≤◌, length, replicate, sym, refl, ap, ◌∙◌, subst, ap₂, mul_comm, arith}
+use Rattle.std.proofs.Common.{◌≡◌, ◌*◌, ◌<◌, length, replicate, sym, refl, ap, ◌∙◌, subst, ap₂, mul_comm, arith}
 use Rattle.planning.specs.Moves.{label_at}
 use Rattle.planner.specs.Toured.{stops_of}
 use Rattle.planner.proofs.Answered.{solved-planned, solved-left}

@@ -1,6 +1,5 @@
-use Rattle.std.proofs.Common.{◌≡◌, ◌+◌, ◌<◌, ◌≤◌, [], ◌++◌, length, get_or, drop, Ok, Err, vec_items, sym, refl, ap, ◌∙◌, subst, arith}
+use Rattle.std.proofs.Common.{◌≡◌, ◌+◌, ◌≤◌, [], ◌++◌, length, drop, Ok, vec_items, sym, refl, ap, ◌∙◌, subst, arith}
 use Rattle.std.proofs.lemmas.List.{append_assoc, append-nil, drop_all}
-use Rattle.rules.specs.declared.refusal.Refusal.TheVariants as why
 use Rattle.books.specs.declared.sets.RuleSet.TheVariants as set
 use Rattle.lines.specs.declared.line.Line.TheVariants as line
 use Rattle.lines.specs.Texts.{calls_read}

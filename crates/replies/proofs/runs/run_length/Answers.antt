@@ -1,4 +1,4 @@
-use Rattle.std.proofs.Common.{◌≡◌, ◌<◌, ◌≤◌, length, get_or, ap, inl, inr, arith}
+use Rattle.std.proofs.Common.{◌<◌, ◌≤◌, length, get_or, ap, inl, inr, arith}
 use Rattle.std.proofs.lemmas.Bool.{cases_eq}
 use Rattle.replies.proofs.Fronts.{equal_front, differs_at, differs_none}
 use Rattle.replies.proofs.runs.run_length.Goals as goal
