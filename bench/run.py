@@ -1,7 +1,8 @@
 #!/usr/bin/env python3
 """Times frontier_pairs against the same two loops in plain Rust: the same pairs, as often, and the same output.
 
-Wants rustc, and the program frontier_pairs, which `tools/program frontier_pairs` builds. Each figure is the least processor time of nine runs.
+Wants rustc, and the program frontier_pairs, which `tools/program frontier_pairs` builds. Each figure is the least processor time of nine
+runs.
 """
 import os
 import pathlib

@@ -1,8 +1,8 @@
 #!/usr/bin/env python3
-"""Times whole texts of 4,096 bytes filled with plans: the program hours and the reference in plain Rust, in one run.
+"""Times whole texts of 4,096 bytes filled with plans: the program of ./hours and the reference in plain Rust, in one run.
 
-Wants the program hours_text, which `tools/program hours_text` builds, and rustc for bench/reference. Each figure is the least processor time of five
-runs of the program, its start included; the two replies are compared but for the schedules, whose choice is free.
+Wants the program hours_text, which `tools/program hours_text` builds, and rustc for bench/reference. Each figure is the least processor
+time of five runs of the program, its start included; the two replies are compared but for the schedules, whose choice is free.
 """
 import os
 import pathlib

@@ -12,7 +12,7 @@ use Rattle.rules.specs.LayersLemmas.{some-none, moved_either}
 use Rattle.books.specs.declared.duty_cycle.book.CycleRow.{CycleRow}
 use Rattle.books.specs.DayCounts.{NoMore, none_on, total_on, next_counts}
 use Rattle.books.specs.DutyCycle.{CycleSound, NoWorseCycle, given_cycle, cycle_names, next_cycle, cycle_after, fits_cycle, remade_cycle}
-use Rattle.books.specs.Eights.{none_least, total_more, next_more, counts-within, decides_within}
+use Rattle.books.specs.Eights.{none_least, total_more, next_more, counts_within, decides_within}
 
 pub run_le : (full run : ℕ) (unbroken : Bool) → next_run full run unbroken ≤ full
 run_le full run unbroken = elim unbroken as (λ b. next_run full run b ≤ full) [ true ↦ omega arith | false ↦ omega arith ]
@@ -78,7 +78,7 @@ cycle_relieves s q sound none =
 pub cycle_endures : (s : CycleRow) (q : ℕ) (x : Duty) → CycleSound s → CycleSound (cycle_after s q x)
 cycle_endures s q x sound =
     moved_either CycleSound (cycle_names s q x) (next_cycle s q x) s
-    (sound.0, (sound.1.0, sound.1.1, run_le s.restart s.rest (resting x)), counts-within s.days s.restart s.rest _ q s.duty _ (working x) sound.0.0 (run_le s.restart s.rest (resting x)) sound.2 refl)
+    (sound.0, (sound.1.0, sound.1.1, run_le s.restart s.rest (resting x)), counts_within s.days s.restart s.rest _ q s.duty _ (working x) sound.0.0 (run_le s.restart s.rest (resting x)) sound.2 refl)
     sound
 
 pub fits_sound : (s : CycleRow) → fits_cycle s ≡ true → CycleSound s

@@ -58,7 +58,6 @@ next_cycle s q x = record {
 abbrev pub cycle_after : CycleRow → ℕ → Duty → CycleRow
 cycle_after s q x = moved (cycle_names s q x) (next_cycle s q x) s
 
--- whether a row is a state's
 -- whether two rows are the same, figure by figure
 abbrev pub same_cycle : CycleRow → CycleRow → Bool
 same_cycle =
@@ -67,6 +66,7 @@ same_cycle =
     (eq_of_both (on (λ r. r.restart) ◌==◌)
     (eq_of_both (on (λ r. r.duty) (pointwise ◌==◌)) (on (λ r. r.rest) ◌==◌))))
 
+-- whether a row is a state's
 abbrev pub fits_cycle : CycleRow → Bool
 fits_cycle s = nat_le 1 s.days && nat_le s.days 8 && nat_le 1 s.limit && nat_le s.limit 768 && nat_le 1 s.restart && nat_le s.restart 672 && nat_le s.rest s.restart && all_within (most_on s.days s.restart s.rest) s.duty
 

@@ -58,23 +58,23 @@ most_day days restart rest i = grind (arith, nat_tests)
 most_short : (days restart rest rest' i : ℕ) → rest' < restart → most_on days restart rest i ≤ most_on days restart rest' i
 most_short days restart rest rest' i h = grind (arith, nat_tests)
 
-aged-within : (days restart rest i n : ℕ) → rest < restart → n ≤ 96 → aged days i n ≤ most_on days restart rest i
-aged-within days restart rest i n h d = grind (arith, nat_tests)
+aged_within : (days restart rest i n : ℕ) → rest < restart → n ≤ 96 → aged days i n ≤ most_on days restart rest i
+aged_within days restart rest i n h d = grind (arith, nat_tests)
 
-turned-within : (days restart rest n : ℕ) (on : List ℕ) → rest < restart → n ≤ 96 → ((i : ℕ) → slice_index on i ≤ 96) → CycleCounts days restart (turned days n on) rest
-turned-within days restart rest n on short h day =
+turned_within : (days restart rest n : ℕ) (on : List ℕ) → rest < restart → n ≤ 96 → ((i : ℕ) → slice_index on i ≤ 96) → CycleCounts days restart (turned days n on) rest
+turned_within days restart rest n on short h day =
     each_of_eight (most_on days restart rest) _ _ _ _ _ _ _ _
     (omega arith)
-    (aged-within days restart rest 1 n short h)
-    (aged-within days restart rest 2 _ short (day 1))
-    (aged-within days restart rest 3 _ short (day 2))
-    (aged-within days restart rest 4 _ short (day 3))
-    (aged-within days restart rest 5 _ short (day 4))
-    (aged-within days restart rest 6 _ short (day 5))
-    (aged-within days restart rest 7 _ short (day 6))
+    (aged_within days restart rest 1 n short h)
+    (aged_within days restart rest 2 _ short (day 1))
+    (aged_within days restart rest 3 _ short (day 2))
+    (aged_within days restart rest 4 _ short (day 3))
+    (aged_within days restart rest 5 _ short (day 4))
+    (aged_within days restart rest 6 _ short (day 5))
+    (aged_within days restart rest 7 _ short (day 6))
 
-gone_on-within : (days restart rest n : ℕ) (on : List ℕ) → 1 ≤ days → rest < restart → n ≤ 96 → CycleCounts days restart on rest → CycleCounts days restart (gone_on n on) rest
-gone_on-within days restart rest n on some short h within =
+gone_on_within : (days restart rest n : ℕ) (on : List ℕ) → 1 ≤ days → rest < restart → n ≤ 96 → CycleCounts days restart on rest → CycleCounts days restart (gone_on n on) rest
+gone_on_within days restart rest n on some short h within =
     each_of_eight (most_on days restart rest) _ _ _ _ _ _ _ _
     (grind (arith, nat_tests))
     (within 1)
@@ -90,14 +90,14 @@ next_within days restart rest rest' q on busy some short within =
     let n : ℕ = min 96 (slice_index on 0 + cond busy 1 0) in
     let day : (i : ℕ) → slice_index on i ≤ 96 = λ i. omega (arith, within i, most_day days restart rest i) in
     elim (q % 96 == 95) as (λ t. CycleCounts days restart (cond t (turned days n on) (gone_on n on)) rest') [
-      | true ↦ turned-within days restart rest' n on short (omega arith) day
+      | true ↦ turned_within days restart rest' n on short (omega arith) day
       | false ↦
-          gone_on-within days restart rest' n on some short (omega arith) (λ i. omega (arith, within i, most_short days restart rest rest' i short))
+          gone_on_within days restart rest' n on some short (omega arith) (λ i. omega (arith, within i, most_short days restart rest rest' i short))
     ]
 
 -- the counts beside the run that a quarter leaves
-pub counts-within : (days restart rest rest' q : ℕ) (on on' : List ℕ) (busy : Bool) → 1 ≤ days → rest' ≤ restart → CycleCounts days restart on rest → on' ≡ cond (rest' == restart) none_on (next_counts days q on busy) → CycleCounts days restart on' rest'
-counts-within days restart rest rest' q on on' busy some le within is =
+pub counts_within : (days restart rest rest' q : ℕ) (on on' : List ℕ) (busy : Bool) → 1 ≤ days → rest' ≤ restart → CycleCounts days restart on rest → on' ≡ cond (rest' == restart) none_on (next_counts days q on busy) → CycleCounts days restart on' rest'
+counts_within days restart rest rest' q on on' busy some le within is =
     subst (λ n. CycleCounts days restart n rest') (sym is) (go (rest' == restart) refl)
   where
     go : (b : Bool) → (rest' == restart) ≡ b → CycleCounts days restart (cond b none_on (next_counts days q on busy)) rest'
@@ -105,18 +105,18 @@ counts-within days restart rest rest' q on on' busy some le within is =
     go false e = next_within days restart rest rest' q on busy some (omega (arith, eqb-false rest' restart e)) within
 
 -- the test of a row's counts
-within-true : (f : ℕ → ℕ) (on : List ℕ) → all_within f on ≡ true → (i : ℕ) → slice_index on i ≤ f i
-within-true f [] e i = omega arith
-within-true f (n ∷ on) e zero = leb-true n (f 0) (and_parts _ _ e).0
-within-true f (n ∷ on) e (suc i) = within-true (λ i. f (suc i)) on (and_parts _ _ e).1 i
+within_true : (f : ℕ → ℕ) (on : List ℕ) → all_within f on ≡ true → (i : ℕ) → slice_index on i ≤ f i
+within_true f [] e i = omega arith
+within_true f (n ∷ on) e zero = leb-true n (f 0) (and_parts _ _ e).0
+within_true f (n ∷ on) e (suc i) = within_true (λ i. f (suc i)) on (and_parts _ _ e).1 i
 
-true-within : (f : ℕ → ℕ) (on : List ℕ) → ((i : ℕ) → slice_index on i ≤ f i) → all_within f on ≡ true
-true-within f [] h = refl
-true-within f (n ∷ on) h = and_from _ _ (le-leb n (f 0) (h 0)) (true-within (λ i. f (suc i)) on (λ i. h (suc i)))
+true_within : (f : ℕ → ℕ) (on : List ℕ) → ((i : ℕ) → slice_index on i ≤ f i) → all_within f on ≡ true
+true_within f [] h = refl
+true_within f (n ∷ on) h = and_from _ _ (le-leb n (f 0) (h 0)) (true_within (λ i. f (suc i)) on (λ i. h (suc i)))
 
 pub decides_within : (f : ℕ → ℕ) (on : List ℕ) → Decides (all_within f on) ((i : ℕ) → slice_index on i ≤ f i)
-decides_within f on = (within-true f on, true-within f on)
+decides_within f on = (within_true f on, true_within f on)
 
 pub not_within : (f : ℕ → ℕ) (on : List ℕ) (i : ℕ) → f i < slice_index on i → all_within f on ≡ false
 not_within f on i h =
-    elim (cases_Bool (all_within f on)) [ inl e ↦ absurd (omega (arith, within-true f on e i)) | inr e ↦ e ]
+    elim (cases_Bool (all_within f on)) [ inl e ↦ absurd (omega (arith, within_true f on e i)) | inr e ↦ e ]

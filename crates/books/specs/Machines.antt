@@ -1,7 +1,7 @@
 -- The books of the named rule sets as machines over their rows: what each names, where its state goes, and which of two states is at
 -- least as well off. Assumes nothing.
---   us-..        the US sets; us-low-.. is shift and break alone
---   eu-..        the EU set; eu-low-.. is day and break alone, eu-mid-.. these with the weeks
+--   us_..   the US sets; us_low_.. is shift and break alone
+--   eu_..   the EU set; eu_low_.. is day and break alone, eu_mid_.. these with the weeks
 use Rattle.std.specs.Prelude.{ℕ, Option}
 use Rattle.duty.specs.declared.Duty.{Duty}
 use Rattle.rules.specs.declared.breach.Violation.{Violation}

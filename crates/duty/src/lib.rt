@@ -1,7 +1,7 @@
 // Quarters of an hour, duty statuses, and how a run grows.
 #![tactic(auto)]
 
-ghost use Rattle.std.specs.Prelude.{◌≡◌, ◌+◌, ◌/◌, ◌%◌, ◌<◌, min, cond, Some, ◌==◌};
+ghost use Rattle.std.specs.Prelude.{◌≡◌, ◌/◌, ◌%◌, ◌<◌, min, Some, ◌==◌};
 ghost use Rattle.duty.specs.Duties.{letter_of, duty_of, resting, driving, working};
 ghost use Rattle.duty.specs.Runs.{next_run};
 

@@ -42,7 +42,7 @@ module _ {X : Type 0} (covers : X → X → Type 0) (x : X) (xs : List X) (count
     -- x would be put last, and does not fit
     pub offered_long : left ≡ length ys → length ys ≡ length xs → (after : List X) × Offered covers (take count xs) x after × (length xs < length after)
     offered_long full long =
-        let All-stay = length-take-le left ys (omega arith) in
+        let all_stay = length-take-le left ys (omega arith) in
         let longer = length_push (take left ys) x in
         (take left ys ++ (x ∷ []), inr (unseen, (take left ys, without, refl)), omega arith)
 

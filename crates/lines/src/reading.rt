@@ -1,6 +1,6 @@
 // What a line says, or the refusal where it fits no kind of line.
 ghost use Rattle.std.specs.Prelude.{◌≡◌, ℕ, ◌++◌, codes};
-ghost use Rattle.lines.specs.Says.{Says, Reads, plan_call};
+ghost use Rattle.lines.specs.Says.{Reads, plan_call};
 
 use crate::line::Line;
 use books::sets::RuleSet;

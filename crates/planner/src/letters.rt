@@ -1,5 +1,5 @@
 // The letters of a schedule, written back from its last quarter along the trail.
-ghost use Rattle.std.specs.Prelude.{◌≡◌, ◌+◌, ◌*◌, ◌<◌, ◌≤◌, List, [], ◌∷◌, ◌++◌, map, length, take, drop, replicate};
+ghost use Rattle.std.specs.Prelude.{◌≡◌, ◌+◌, ◌*◌, ◌<◌, ◌≤◌, List, [], ◌∷◌, ◌++◌, map, length, take, drop};
 ghost use Rattle.duty.specs.declared.Duty.{Duty};
 ghost use Rattle.duty.specs.declared.Duty.TheVariants.{Work};
 ghost use Rattle.duty.specs.Duties.{letter_of};

@@ -1,5 +1,4 @@
 // A carrier's own book, with no counters: driving only by day.
-ghost use Rattle.std.specs.Prelude.{◌≡◌};
 ghost use Rattle.planner_tests.specs.Daytime.{day_names, AllByDay};
 ghost use Rattle.std.proofs.Common.{rules};
 ghost use Rattle.planner_tests.specs.ByDay.{lawful-allowed, allowed-lawful};

@@ -1,4 +1,4 @@
-// What `hours` prints for a text.
+// What `./hours` prints for a text.
 ghost use Rattle.std.specs.Prelude.{IfOk};
 ghost use Rattle.replies.specs.Printing.{Printed};
 ghost use Rattle.replies.specs.Promised.{BreachesFirst};

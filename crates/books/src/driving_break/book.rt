@@ -2,7 +2,7 @@
 ghost use Rattle.std.specs.Prelude.{◌≡◌, [], ◌∷◌, None};
 ghost use Rattle.books.specs.DrivingBreak.{BreakSound, NoWorseBreak, break_row, given_break, opened_break, break_names, next_break, break_after, remade_break};
 ghost use Rattle.books.specs.Sets.{Lawful, break_rules};
-ghost use Rattle.std.proofs.Common.{rules, arith};
+ghost use Rattle.std.proofs.Common.{rules};
 ghost use Rattle.books.specs.Breaks.{break_tied, remade_sound};
 ghost use Rattle.books.specs.Tied.{lawful-allowed, allowed-lawful};
 ghost use Rattle.rules.specs.LayersLemmas.{moved_either};
@@ -113,27 +113,27 @@ impl RuleBook for BreakState {
 
     ghost layers = { 1 };
 
-    ghost rests = { first_of (Prim.search rules, Prim.grind (arith, Self.row.coded.inj)) };
+    ghost rests = { Prim.search rules };
 
-    ghost keeps = { first_of (Prim.search rules, Prim.grind (arith, Self.row.coded.inj)) };
+    ghost keeps = { Prim.search rules };
 
-    ghost relieves = { first_of (Prim.search rules, Prim.grind (arith, Self.row.coded.inj)) };
+    ghost relieves = { Prim.search rules };
 
     ghost judged = { λ s l sound short.
         let tied = break_tied s.limit s.length s.kind in
         (lawful-allowed _ _ _ _ tied l, allowed-lawful _ _ _ _ tied l) };
 
-    ghost stays = { first_of (Prim.search rules, Prim.grind (arith, Self.row.coded.inj)) };
+    ghost stays = { Prim.search rules };
 
-    ghost bounded = { first_of (Prim.search rules, Prim.grind (arith, Self.row.coded.inj)) };
+    ghost bounded = { Prim.search rules };
 
-    ghost endures = { first_of (Prim.search rules, Prim.grind (arith, Self.row.coded.inj)) };
+    ghost endures = { Prim.search rules };
 
-    ghost fresh = { first_of (Prim.search rules, Prim.grind (arith, Self.row.coded.inj)) };
+    ghost fresh = { Prim.search rules };
 
     ghost valid = { remade_sound };
 
-    ghost restores = { first_of (Prim.search rules, Prim.grind (arith, Self.row.coded.inj)) };
+    ghost restores = { Prim.search rules };
 
     ghost fixed = { λ s q x l.
         moved_either
@@ -144,13 +144,13 @@ impl RuleBook for BreakState {
         ((λ h. h), (λ h. h))
         ((λ h. h), (λ h. h)) };
 
-    ghost renewed = { first_of (Prim.search rules, Prim.grind (arith, Self.row.coded.inj)) };
+    ghost renewed = { Prim.search rules };
 
-    ghost based = { first_of (Prim.search rules, Prim.grind (arith, Self.row.coded.inj)) };
+    ghost based = { Prim.search rules };
 
-    ghost placed = { first_of (Prim.search rules, Prim.grind (arith, Self.row.coded.inj)) };
+    ghost placed = { Prim.search rules };
 
-    ghost owns = { first_of (Prim.search rules, Prim.grind (arith, Self.row.coded.inj)) };
+    ghost owns = { Prim.search rules };
 
     fn owned() -> (u8, u8) {
         (Self::LOWEST, Self::HIGHEST)

@@ -3,8 +3,7 @@ ghost use Rattle.std.specs.Prelude.{◌≡◌, [], ◌∷◌, Decides};
 ghost use Rattle.books.specs.DutyCycle.{CycleSound, NoWorseCycle, cycle_row, given_cycle, opened_cycle, cycle_names, next_cycle, cycle_after, fits_cycle, remade_cycle, same_cycle};
 ghost use Rattle.books.specs.Sets.{Lawful, cycle_rules};
 ghost use Rattle.std.specs.Cmp.Rules.{comparing};
-ghost use Rattle.std.proofs.Common.{rules, arith};
-ghost use Rattle.std.specs.Cmp as Keys;
+ghost use Rattle.std.proofs.Common.{rules};
 ghost use Rattle.books.specs.CycleLaws.{cycle_keeps, cycle_relieves, cycle_endures, remade_sound, cycle_restores};
 ghost use Rattle.books.specs.Cycles.{cycle_tied};
 ghost use Rattle.books.specs.Tied.{lawful-allowed, allowed-lawful};
@@ -143,7 +142,7 @@ impl RuleBook for CycleState {
 
     ghost layers = { 1 };
 
-    ghost rests = { first_of (Prim.search rules, Prim.grind (arith, Self.row.coded.inj)) };
+    ghost rests = { Prim.search rules };
 
     ghost keeps = { λ a b q x sa sb short better none. cycle_keeps a b q x better none };
 
@@ -153,13 +152,13 @@ impl RuleBook for CycleState {
         let tied = cycle_tied s.days s.limit s.restart sound.0.0 sound.0.1 in
         (lawful-allowed _ _ _ _ tied l, allowed-lawful _ _ _ _ tied l) };
 
-    ghost stays = { first_of (Prim.search rules, Prim.grind (arith, Self.row.coded.inj)) };
+    ghost stays = { Prim.search rules };
 
-    ghost bounded = { first_of (Prim.search rules, Prim.grind (arith, Self.row.coded.inj)) };
+    ghost bounded = { Prim.search rules };
 
     ghost endures = { cycle_endures };
 
-    ghost fresh = { first_of (Prim.search rules, Prim.grind (arith, Self.row.coded.inj)) };
+    ghost fresh = { Prim.search rules };
 
     ghost valid = { remade_sound };
 
@@ -174,13 +173,13 @@ impl RuleBook for CycleState {
         ((λ h. h), (λ h. h))
         ((λ h. h), (λ h. h)) };
 
-    ghost renewed = { first_of (Prim.search rules, Prim.grind (arith, Self.row.coded.inj)) };
+    ghost renewed = { Prim.search rules };
 
-    ghost based = { first_of (Prim.search rules, Prim.grind (arith, Self.row.coded.inj)) };
+    ghost based = { Prim.search rules };
 
-    ghost placed = { first_of (Prim.search rules, Prim.grind (arith, Self.row.coded.inj)) };
+    ghost placed = { Prim.search rules };
 
-    ghost owns = { first_of (Prim.search rules, Prim.grind (arith, Self.row.coded.inj)) };
+    ghost owns = { Prim.search rules };
 
     fn owned() -> (u8, u8) {
         (Self::LOWEST, Self::HIGHEST)

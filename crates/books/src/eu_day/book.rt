@@ -4,7 +4,7 @@ ghost use Rattle.books.specs.Sets.{Lawful, day_rules};
 ghost use Rattle.books.specs.EuDay.{day_row, DaySound, opened_day, day_names, day_after, remade_day};
 ghost use Rattle.books.specs.EuDays.{day_tied};
 ghost use Rattle.books.specs.Tied.{lawful-allowed, allowed-lawful};
-ghost use Rattle.std.proofs.Common.{rules, arith};
+ghost use Rattle.std.proofs.Common.{rules};
 
 use super::EuDay;
 use crate::period::PeriodRow;
@@ -60,35 +60,35 @@ impl RuleBook for EuDay {
 
     ghost layers = { 1 };
 
-    ghost rests = { first_of (Prim.search rules, Prim.grind (arith, Self.row.coded.inj)) };
+    ghost rests = { Prim.search rules };
 
-    ghost keeps = { first_of (Prim.search rules, Prim.grind (arith, Self.row.coded.inj)) };
+    ghost keeps = { Prim.search rules };
 
-    ghost relieves = { first_of (Prim.search rules, Prim.grind (arith, Self.row.coded.inj)) };
+    ghost relieves = { Prim.search rules };
 
     ghost judged = { λ s l sound short. (lawful-allowed _ _ _ _ day_tied l, allowed-lawful _ _ _ _ day_tied l) };
 
-    ghost stays = { first_of (Prim.search rules, Prim.grind (arith, Self.row.coded.inj)) };
+    ghost stays = { Prim.search rules };
 
-    ghost bounded = { first_of (Prim.search rules, Prim.grind (arith, Self.row.coded.inj)) };
+    ghost bounded = { Prim.search rules };
 
-    ghost endures = { first_of (Prim.search rules, Prim.grind (arith, Self.row.coded.inj)) };
+    ghost endures = { Prim.search rules };
 
-    ghost fresh = { first_of (Prim.search rules, Prim.grind (arith, Self.row.coded.inj)) };
+    ghost fresh = { Prim.search rules };
 
-    ghost valid = { first_of (Prim.search rules, Prim.grind (arith, Self.row.coded.inj)) };
+    ghost valid = { Prim.search rules };
 
-    ghost restores = { first_of (Prim.search rules, Prim.grind (arith, Self.row.coded.inj)) };
+    ghost restores = { Prim.search rules };
 
-    ghost fixed = { first_of (Prim.search rules, Prim.grind (arith, Self.row.coded.inj)) };
+    ghost fixed = { Prim.search rules };
 
-    ghost renewed = { first_of (Prim.search rules, Prim.grind (arith, Self.row.coded.inj)) };
+    ghost renewed = { Prim.search rules };
 
-    ghost based = { first_of (Prim.search rules, Prim.grind (arith, Self.row.coded.inj)) };
+    ghost based = { Prim.search rules };
 
-    ghost placed = { first_of (Prim.search rules, Prim.grind (arith, Self.row.coded.inj)) };
+    ghost placed = { Prim.search rules };
 
-    ghost owns = { first_of (Prim.search rules, Prim.grind (arith, Self.row.coded.inj)) };
+    ghost owns = { Prim.search rules };
 
     fn owned() -> (u8, u8) {
         (Self::LOWEST, Self::HIGHEST)
