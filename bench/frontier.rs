@@ -1,4 +1,4 @@
-// The program of crates/frontier_pairs in plain Rust, with the same two loops.
+// The program of crates/frontier_pairs in plain Rust, with the same two passes.
 use std::io::{BufRead, stdin};
 
 #[derive(Clone, Copy)]

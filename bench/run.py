@@ -1,5 +1,5 @@
 #!/usr/bin/env python3
-"""Times frontier_pairs against the same two loops in plain Rust: the same pairs, as often, and the same output.
+"""Times frontier_pairs against the same two passes in plain Rust: the same pairs, as often, and the same output.
 
 Wants rustc, and the program frontier_pairs, which `tools/program frontier_pairs` builds. Each figure is the least processor time of nine
 runs.
