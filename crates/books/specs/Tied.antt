@@ -42,6 +42,10 @@ module _ {S : Type 0} (names : S → ℕ → Duty → Option Violation) (after :
   allowed-lawful l a q lt =
       none_kept l q (placed 1 set) _ (tied.says l q) (each l (length l) (omega arith) (subst (Allowed names after opened 0) (sym (take_all (length l) l (omega arith))) a) q lt)
 
+  -- a log keeps the set exactly when the machine allows it
+  pub tied_judged : (l : List Duty) → (Lawful set l → Allowed names after opened 0 l) × (Allowed names after opened 0 l → Lawful set l)
+  tied_judged l = (lawful-allowed l, allowed-lawful l)
+
   -- a breach that the machine names is the first breach of the set
   pub breached-first : Sorted (placed 1 set) → (l : List Duty) (n : ℕ) (b : Breach) → n < length l → Allowed names after opened 0 (take n l) → breach_at n (names (led after opened 0 (take n l)) n (at l n)) ≡ Some b → FirstBreach set l b
   breached-first sorted l n b lt a e =

@@ -1,5 +1,7 @@
 // A log spelled as runs: `W240 R40 D1` is 240 W, 40 R and 1 D.
-ghost use Rattle.std.specs.Prelude.{◌≡◌, ◌-◌, min, ◌++◌, replicate, is_ok, if◌then◌else◌, vec_len};
+ghost use Rattle.std.specs.Prelude.{◌≡◌, ℕ, ◌-◌, min, ◌++◌, replicate, is_ok, if◌then◌else◌, vec_len, IfOk, MatchOption};
+ghost use Rattle.case_lines.specs.declared.run.Run.{Run};
+ghost use Rattle.case_lines.specs.Spelled.{Held, SpellsRun, NoRun, SpellsLog};
 
 use std::alloc::{AllocError, Global};
 
@@ -14,7 +16,9 @@ pub struct Run {
 }
 
 // The number that the digits spell, held at 2689; nothing where another byte stands among them.
-fn held_number(digits: &[u8]) -> Option<usize> {
+fn held_number(digits: &[u8]) -> Option<usize>
+    ensures { MatchOption result ((n : ℕ) → Held digits.now n → ⊥) (λ n. Held digits.now n) }
+{
     let mut number = 0usize;
     for digit in digits {
         if !digit.is_ascii_digit() {
@@ -30,7 +34,9 @@ fn held_number(digits: &[u8]) -> Option<usize> {
 
 impl Run {
     // The run that a word spells: its letter, and then its count.
-    pub fn from_word(word: &[u8]) -> Option<Run> {
+    pub fn from_word(word: &[u8]) -> Option<Run>
+        ensures { MatchOption result ((run : Run) → SpellsRun word.now run → ⊥) (λ run. SpellsRun word.now run) }
+    {
         let [letter, digits @ ..] = word else {
             return None;
         };
@@ -50,10 +56,16 @@ impl Run {
     }
 }
 
-// The log that the words after the line's first one spell; nothing where one of them is no run.
-pub fn log_of(heap: Global, line: &str) -> Result<Option<Vec<u8>>, AllocError> {
+// The log that the words after the line's first one spell, as far as 2689 letters; nothing where one of them is no run.
+pub fn log_of(heap: Global, line: &str) -> Result<Option<Vec<u8>>, AllocError>
+    ensures { IfOk result (λ found. MatchOption found (NoRun line.now) (λ log. SpellsLog line.now log.items)) }
+{
     let mut log = Vec::new(heap);
-    for word in line.split_whitespace().skip(1) {
+    let mut words = line.split_whitespace();
+    let Some(_) = words.next() else {
+        return Ok(Some(log));
+    };
+    for word in words {
         let Some(run) = Run::from_word(word.as_bytes()) else {
             return Ok(None);
         };

@@ -18,7 +18,7 @@ OfDigits ds = (i : ℕ) → i < length ds → IsInRange 48 57 (get_or ds i 0)
 own : IsNumeralModel OfDigits (digits_value 10)
 own = numerals_by_value OfDigits tells_by_index
 
-small : (n : ℕ) → n ≤ 9999 → n < 2 ^ 64
+pub small : (n : ℕ) → n ≤ 9999 → n < 2 ^ 64
 small n h = omega arith
 
 -- a field that spells a number is what is written of it

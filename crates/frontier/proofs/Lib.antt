@@ -5,4 +5,5 @@ pub mod Lefts
 pub mod Growth
 pub mod Turns
 pub mod Outcome
+pub mod Fronts
 pub mod Exact

@@ -1,12 +1,12 @@
 -- What lines of one kind say: one thing at most, and only of that kind.
-use Rattle.std.proofs.Common.{◌≡◌, ℕ, zero, suc, ◌^◌, ◌<◌, ◌≤◌, false, eqb, List, [], ◌∷◌, ◌++◌, get_or, drop, Ok, codes, decimal, sym, refl, ap, ◌∙◌, subst, arith}
+use Rattle.std.proofs.Common.{◌≡◌, ℕ, zero, suc, ◌≤◌, false, eqb, List, [], ◌∷◌, ◌++◌, get_or, drop, Ok, codes, decimal, sym, refl, ap, ◌∙◌, subst, arith}
 use Rattle.std.proofs.lemmas.Fmt.{decimal_injective}
 use Rattle.std.proofs.lemmas.Bool.{eqb-false}
 use Rattle.books.specs.declared.sets.RuleSet.{RuleSet}
 use Rattle.books.specs.declared.sets.RuleSet.TheVariants as set
 use Rattle.books.specs.Names.{set_name}
 use Rattle.fields.proofs.Cutting.{parted_once, lacks_not, lacks_so}
-use Rattle.fields.proofs.Numerals.{led_once}
+use Rattle.fields.proofs.Numerals.{led_once, small}
 use Rattle.fields.specs.Cuts.{Lacks, Parted}
 use Rattle.planner.specs.declared.call.Call.TheVariants.{Record, Add, Drop, Plan}
 use Rattle.lines.specs.declared.line.Line.{Line}
@@ -19,9 +19,6 @@ differ a b xs ys e same = eqb-false a b e (ap (λ l. get_or l 0 0) same)
 
 differ₂ : (c d a b : ℕ) (xs ys : List ℕ) → eqb a b ≡ false → c ∷ a ∷ xs ≡ d ∷ b ∷ ys → ⊥
 differ₂ c d a b xs ys e same = differ a b xs ys e (ap (drop 1) same)
-
-small : (n : ℕ) → n ≤ 9999 → n < 2 ^ 64
-small n h = omega arith
 
 same_set : (s t : RuleSet) → set_name s ≡ set_name t → s ≡ t
 same_set set.Us7 set.Us7 e = refl

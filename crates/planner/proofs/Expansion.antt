@@ -13,7 +13,7 @@ use Rattle.planning.specs.Moves.{move}
 use Rattle.planning.specs.Plain.{Plainly}
 use Rattle.planner.specs.Candidates.{live, second, candidates, layer}
 use Rattle.planner.specs.Trail.{entry}
-use Rattle.planner.proofs.Offers.{front as front_of}
+use Rattle.frontier.proofs.Fronts.{front as front_of}
 
 -- f keeps a smallest cover of the candidates of the first j labels, at most two a label
 pub record Expanded {R : Type 0} (names : R → ℕ → Duty → Option Violation) (after : R → ℕ → Duty → R) (better : R → R → Type 0) (stops : List Stop) (q : ℕ) (front : List (Label R)) (places : ℕ) (f : Frontier (Label R)) (j : ℕ) : Type 0 where

@@ -1,6 +1,5 @@
--- Offers to a frontier with a place left, and the front of the places that it had. Assumes nothing.
-use Rattle.std.proofs.Common.{◌≡◌, ℕ, ◌+◌, ◌<◌, ◌≤◌, true, List, [], ◌∷◌, ◌++◌, length, take, IfOk, Some, Ok, Err, Option, Result, sym, ap, ◌∙◌, subst, arith, MatchResult}
-use Rattle.std.proofs.lemmas.List.{length-take}
+-- Offers to a frontier with a place left. Assumes nothing.
+use Rattle.std.proofs.Common.{◌≡◌, ℕ, ◌+◌, ◌<◌, ◌≤◌, true, List, [], ◌∷◌, ◌++◌, length, IfOk, Some, Ok, Err, Option, Result, sym, ap, ◌∙◌, subst, arith, MatchResult}
 use Rattle.std.proofs.lemmas.Bool.{cond-true}
 use Rattle.frontier.specs.Cover.{SmallestCover, StillSmallest}
 use Rattle.frontier.specs.Offer.{Offered, LacksPlace}
@@ -8,7 +7,6 @@ use Rattle.frontier.specs.Places.{all, kept}
 use Rattle.frontier.specs.declared.container.Frontier.{Frontier}
 use Rattle.frontier.specs.declared.refusal.Refusal.{Refusal}
 use Rattle.frontier.proofs.Exact.{offered-length}
-use Rattle.frontier.proofs.Outcome.{take_within}
 use Rattle.planning.specs.declared.Label.{Label}
 use Rattle.planning.specs.declared.Stop.{Stop}
 use Rattle.planner.specs.Candidates.{alive, live}
@@ -23,13 +21,6 @@ module _ {X : Type 0} (covers : X → X → Type 0) where
   taken f g x (Ok _) value still room = (offered-length covers (kept f) x (kept g) value, still)
   taken f g x (Err why) value still room =
       absurd (omega (arith, offered-length covers (kept f) x value.1.0 value.1.1, value.1.2))
-
-module _ {X : Type 0} where
-  pub front : (f : Frontier X) (places : List X) (n : ℕ) → n ≡ length (kept f) → places ≡ all f → take n places ≡ kept f
-  front f places n is same = ap (take n) same ∙ take_within (all f) f.count n (is ∙ length-take f.count (all f))
-
-  pub front_fits : (f : Frontier X) (places : List X) (n : ℕ) → n ≡ length (kept f) → places ≡ all f → n ≤ length places
-  front_fits f places n is same = omega (arith, length-take f.count (all f), ap length same)
 
 -- what was offered is the label that was moved to and lives
 pub as_live : {R : Type 0} (covers : Label R → Label R → Type 0) (stops : List Stop) (q : ℕ) (made : Option (Label R)) (b : Label R) (labels seen : List (Label R))

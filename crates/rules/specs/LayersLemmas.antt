@@ -34,6 +34,11 @@ pub moved_either : {S V : Type 0} (P : S → Type 0) (o : Option V) (new old : S
 moved_either P None new old p q = p
 moved_either P (Some v) new old p q = q
 
+-- what the new state keeps of the old one is kept by the state that is moved to
+pub moved_same : {S V : Type 0} (P : S → Type 0) (o : Option V) (new old : S) → (P old → P new) × (P new → P old) → (P old → P (moved o new old)) × (P (moved o new old) → P old)
+moved_same P None new old both = both
+moved_same P (Some v) new old both = ((λ h. h), (λ h. h))
+
 module _ {O U : Type 0} (nu : O → ℕ → Duty → Option Violation) (au : O → ℕ → Duty → O) (nl : U → ℕ → Duty → Option Violation) (al : U → ℕ → Duty → U) (n : ℕ) where
   pub allowed_parts : (l : List Duty) (s : Stacked O U) (q : ℕ) → Allowed (both_name nu au nl al n) (both_move nu au nl al n) s q l → Allowed nl al s.below q l × Allowed nu au s.own q l
   allowed_parts [] s q h = (tt, tt)

@@ -2,7 +2,7 @@
 ghost use Rattle.std.specs.Prelude.{◌≡◌, ◌+◌, ◌<◌, min};
 ghost use Rattle.rules.specs.Layers.{raised, first_named, moved};
 ghost use Rattle.std.proofs.Common.{rules, arith, inl, inr};
-ghost use Rattle.rules.specs.LayersLemmas.{named_none, named-both, moved-both, allowed_parts, allowed-both, moved_either, named_cases};
+ghost use Rattle.rules.specs.LayersLemmas.{named_none, named-both, moved-both, allowed_parts, allowed-both, moved_same, named_cases};
 
 use crate::book::{Figures, RuleBook};
 use crate::breach::Violation;
@@ -108,13 +108,12 @@ impl<L: RuleBook, B: RuleBook> RuleBook for Layered<L, B> {
     ghost fixed = { λ s q x l.
         let up = L.RuleBook.fixed s.own q x l in
         let low = B.RuleBook.fixed s.below q x l in
-        moved_either
-        (λ t. (B.RuleBook.lawful s.below l × L.RuleBook.lawful s.own l → B.RuleBook.lawful t.below l × L.RuleBook.lawful t.own l) × (B.RuleBook.lawful t.below l × L.RuleBook.lawful t.own l → B.RuleBook.lawful s.below l × L.RuleBook.lawful s.own l))
+        moved_same
+        (λ t. B.RuleBook.lawful t.below l × L.RuleBook.lawful t.own l)
         (first_named (B.RuleBook.names s.below q x) (L.RuleBook.names s.own q x))
         (record { own = L.RuleBook.after s.own q x; below = B.RuleBook.after s.below q x })
         s
-        ((λ h. (low.0 h.0, up.0 h.1)), (λ h. (low.1 h.0, up.1 h.1)))
-        ((λ h. h), (λ h. h)) };
+        ((λ h. (low.0 h.0, up.0 h.1)), (λ h. (low.1 h.0, up.1 h.1))) };
 
     ghost renewed = { Prim.search rules };
 

@@ -4,8 +4,8 @@ ghost use Rattle.books.specs.DrivingBreak.{BreakSound, NoWorseBreak, break_row, 
 ghost use Rattle.books.specs.Sets.{Lawful, break_rules};
 ghost use Rattle.std.proofs.Common.{rules};
 ghost use Rattle.books.specs.Breaks.{break_tied, remade_sound};
-ghost use Rattle.books.specs.Tied.{lawful-allowed, allowed-lawful};
-ghost use Rattle.rules.specs.LayersLemmas.{moved_either};
+ghost use Rattle.books.specs.Tied.{tied_judged};
+ghost use Rattle.rules.specs.LayersLemmas.{moved_same};
 
 use super::BreakState;
 use crate::pause::Pause;
@@ -121,7 +121,7 @@ impl RuleBook for BreakState {
 
     ghost judged = { λ s l sound short.
         let tied = break_tied s.limit s.length s.kind in
-        (lawful-allowed _ _ _ _ tied l, allowed-lawful _ _ _ _ tied l) };
+        tied_judged _ _ _ _ tied l };
 
     ghost stays = { Prim.search rules };
 
@@ -136,13 +136,7 @@ impl RuleBook for BreakState {
     ghost restores = { Prim.search rules };
 
     ghost fixed = { λ s q x l.
-        moved_either
-        (λ t. (Lawful (break_rules s.limit s.length s.kind ∷ []) l → Lawful (break_rules t.limit t.length t.kind ∷ []) l) × (Lawful (break_rules t.limit t.length t.kind ∷ []) l → Lawful (break_rules s.limit s.length s.kind ∷ []) l))
-        (break_names s q x)
-        (next_break s x)
-        s
-        ((λ h. h), (λ h. h))
-        ((λ h. h), (λ h. h)) };
+        moved_same (λ t. Lawful (break_rules t.limit t.length t.kind ∷ []) l) (break_names s q x) (next_break s x) s ((λ h. h), (λ h. h)) };
 
     ghost renewed = { Prim.search rules };
 

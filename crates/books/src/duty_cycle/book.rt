@@ -6,8 +6,8 @@ ghost use Rattle.std.specs.Cmp.Rules.{comparing};
 ghost use Rattle.std.proofs.Common.{rules};
 ghost use Rattle.books.specs.CycleLaws.{cycle_keeps, cycle_relieves, cycle_endures, remade_sound, cycle_restores};
 ghost use Rattle.books.specs.Cycles.{cycle_tied};
-ghost use Rattle.books.specs.Tied.{lawful-allowed, allowed-lawful};
-ghost use Rattle.rules.specs.LayersLemmas.{moved_either};
+ghost use Rattle.books.specs.Tied.{tied_judged};
+ghost use Rattle.rules.specs.LayersLemmas.{moved_same};
 
 use super::CycleState;
 use super::counts::{count_on, counts_fit, no_more, same, total};
@@ -150,7 +150,7 @@ impl RuleBook for CycleState {
 
     ghost judged = { λ s l sound short.
         let tied = cycle_tied s.days s.limit s.restart sound.0.0 sound.0.1 in
-        (lawful-allowed _ _ _ _ tied l, allowed-lawful _ _ _ _ tied l) };
+        tied_judged _ _ _ _ tied l };
 
     ghost stays = { Prim.search rules };
 
@@ -165,13 +165,7 @@ impl RuleBook for CycleState {
     ghost restores = { cycle_restores };
 
     ghost fixed = { λ s q x l.
-        moved_either
-        (λ t. (Lawful (cycle_rules s.days s.limit s.restart ∷ []) l → Lawful (cycle_rules t.days t.limit t.restart ∷ []) l) × (Lawful (cycle_rules t.days t.limit t.restart ∷ []) l → Lawful (cycle_rules s.days s.limit s.restart ∷ []) l))
-        (cycle_names s q x)
-        (next_cycle s q x)
-        s
-        ((λ h. h), (λ h. h))
-        ((λ h. h), (λ h. h)) };
+        moved_same (λ t. Lawful (cycle_rules t.days t.limit t.restart ∷ []) l) (cycle_names s q x) (next_cycle s q x) s ((λ h. h), (λ h. h)) };
 
     ghost renewed = { Prim.search rules };
 

@@ -3,7 +3,7 @@ ghost use Rattle.std.specs.Prelude.{◌≡◌, [], ◌∷◌};
 ghost use Rattle.books.specs.Sets.{Lawful, day_rules};
 ghost use Rattle.books.specs.EuDay.{day_row, DaySound, opened_day, day_names, day_after, remade_day};
 ghost use Rattle.books.specs.EuDays.{day_tied};
-ghost use Rattle.books.specs.Tied.{lawful-allowed, allowed-lawful};
+ghost use Rattle.books.specs.Tied.{tied_judged};
 ghost use Rattle.std.proofs.Common.{rules};
 
 use super::EuDay;
@@ -66,7 +66,7 @@ impl RuleBook for EuDay {
 
     ghost relieves = { Prim.search rules };
 
-    ghost judged = { λ s l sound short. (lawful-allowed _ _ _ _ day_tied l, allowed-lawful _ _ _ _ day_tied l) };
+    ghost judged = { λ s l sound short. tied_judged _ _ _ _ day_tied l };
 
     ghost stays = { Prim.search rules };
 

@@ -3,7 +3,7 @@ ghost use Rattle.std.specs.Prelude.{◌≡◌, [], ◌∷◌};
 ghost use Rattle.books.specs.Sets.{Lawful, shift_rules};
 ghost use Rattle.books.specs.UsShift.{shift_row, ShiftSound, opened_shift, shift_names, shift_after, remade_shift};
 ghost use Rattle.books.specs.Shift.{shift_tied};
-ghost use Rattle.books.specs.Tied.{lawful-allowed, allowed-lawful};
+ghost use Rattle.books.specs.Tied.{tied_judged};
 ghost use Rattle.std.proofs.Common.{rules};
 
 use super::UsShift;
@@ -67,7 +67,7 @@ impl RuleBook for UsShift {
 
     ghost relieves = { Prim.search rules };
 
-    ghost judged = { λ s l sound short. (lawful-allowed _ _ _ _ shift_tied l, allowed-lawful _ _ _ _ shift_tied l) };
+    ghost judged = { λ s l sound short. tied_judged _ _ _ _ shift_tied l };
 
     ghost stays = { Prim.search rules };
 

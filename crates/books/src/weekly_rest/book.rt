@@ -3,7 +3,7 @@ ghost use Rattle.std.specs.Prelude.{◌≡◌, [], ◌∷◌};
 ghost use Rattle.books.specs.Sets.{Lawful, weekly_rest_rules};
 ghost use Rattle.books.specs.WeeklyRest.{weekly_rest_row, WeeklyRestSound, opened_weekly_rest, weekly_rest_names, weekly_rest_after, remade_weekly_rest};
 ghost use Rattle.books.specs.LongRest.{weekly_rest_tied};
-ghost use Rattle.books.specs.Tied.{lawful-allowed, allowed-lawful};
+ghost use Rattle.books.specs.Tied.{tied_judged};
 ghost use Rattle.std.proofs.Common.{rules};
 
 use super::WeeklyRestState;
@@ -56,7 +56,7 @@ impl RuleBook for WeeklyRestState {
 
     ghost relieves = { Prim.search rules };
 
-    ghost judged = { λ s l sound short. (lawful-allowed _ _ _ _ weekly_rest_tied l, allowed-lawful _ _ _ _ weekly_rest_tied l) };
+    ghost judged = { λ s l sound short. tied_judged _ _ _ _ weekly_rest_tied l };
 
     ghost stays = { Prim.search rules };
 

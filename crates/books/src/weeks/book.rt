@@ -3,7 +3,7 @@ ghost use Rattle.std.specs.Prelude.{◌≡◌, [], ◌∷◌};
 ghost use Rattle.books.specs.Sets.{Lawful, weeks_rules};
 ghost use Rattle.books.specs.EuWeeks.{weeks_row, WeeksSound, opened_weeks, weeks_names, weeks_after, remade_weeks};
 ghost use Rattle.books.specs.TwoWeeks.{weeks_tied};
-ghost use Rattle.books.specs.Tied.{lawful-allowed, allowed-lawful};
+ghost use Rattle.books.specs.Tied.{tied_judged};
 ghost use Rattle.std.proofs.Common.{rules};
 
 use super::WeeksState;
@@ -59,7 +59,7 @@ impl RuleBook for WeeksState {
 
     ghost relieves = { Prim.search rules };
 
-    ghost judged = { λ s l sound short. (lawful-allowed _ _ _ _ weeks_tied l, allowed-lawful _ _ _ _ weeks_tied l) };
+    ghost judged = { λ s l sound short. tied_judged _ _ _ _ weeks_tied l };
 
     ghost stays = { Prim.search rules };
 

@@ -1,7 +1,7 @@
 use Rattle.std.proofs.Common.{sym, subst, rules}
 use Rattle.frontier.specs.Cover.{SmallestCover}
 use Rattle.frontier_pairs.specs.Pairs.{NoLarger}
-use Rattle.frontier_pairs.proofs.Chosen.{front, front_fits}
+use Rattle.frontier.proofs.Fronts.{front, front_fits}
 use Rattle.frontier_pairs.proofs.choice.choose.Goals as goal
 
 pub returns : goal.returns

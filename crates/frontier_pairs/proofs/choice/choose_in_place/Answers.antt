@@ -1,7 +1,7 @@
 use Rattle.std.proofs.Common.{length, get_or, sym, ap, ◌∙◌, subst, arith, rules}
 use Rattle.frontier.specs.Cover.{SmallestCover}
 use Rattle.frontier_pairs.specs.Pairs.{NoLarger}
-use Rattle.frontier_pairs.proofs.Chosen.{front, front_fits}
+use Rattle.frontier.proofs.Fronts.{front, front_fits}
 use Rattle.frontier_pairs.proofs.InPlace.{moved_more, moved_all}
 use Rattle.frontier_pairs.proofs.choice.choose_in_place.Goals as goal
 

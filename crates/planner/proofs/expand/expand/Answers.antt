@@ -1,6 +1,6 @@
 use Rattle.std.proofs.Common.{◌≡◌, length, refl, ap, ◌∙◌, arith, rules}
 use Rattle.planner.proofs.Expansion.{expanded_more, expanded-all}
-use Rattle.planner.proofs.Offers.{front_fits}
+use Rattle.frontier.proofs.Fronts.{front_fits}
 use Rattle.planner.proofs.expand.expand.Goals as goal
 
 pub loop-j-init : goal.loop-j-init

@@ -1,7 +1,6 @@
 use Rattle.std.proofs.Common.{◌≡◌, ◌+◌, ◌-◌, ◌≤◌, min, length, vec_items, vec_len, ◌∙◌, arith, take_all}
 use Rattle.case_lines.proofs.run.Run.append.Goals as goal
 
--- src/run.rt:51:5
 pub returns : goal.returns
 returns c =
     let log = c.args.log.now in
