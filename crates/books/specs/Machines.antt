@@ -5,7 +5,7 @@
 use Rattle.std.specs.Prelude.{ℕ, Option}
 use Rattle.duty.specs.declared.Duty.{Duty}
 use Rattle.rules.specs.declared.breach.Violation.{Violation}
-use Rattle.rules.specs.declared.layered.Stacked.{Stacked}
+use Rattle.rules.specs.declared.layered.Layered.{Layered}
 use Rattle.rules.specs.Piling.{both_name, both_move}
 use Rattle.books.specs.declared.driving_break.book.BreakRow.{BreakRow}
 use Rattle.books.specs.declared.duty_cycle.book.CycleRow.{CycleRow}
@@ -21,13 +21,13 @@ use Rattle.books.specs.UsShift.{shift_names, shift_after}
 use Rattle.books.specs.WeeklyRest.{weekly_rest_names, weekly_rest_after, RestNoWorse}
 
 abbrev pub UsRow : Type 0
-UsRow = Stacked CycleRow (Stacked BreakRow PeriodRow)
+UsRow = Layered CycleRow (Layered BreakRow PeriodRow)
 
 -- shift and break
-abbrev pub us_low_names : Stacked BreakRow PeriodRow → ℕ → Duty → Option Violation
+abbrev pub us_low_names : Layered BreakRow PeriodRow → ℕ → Duty → Option Violation
 us_low_names = both_name break_names break_after shift_names shift_after 1
 
-abbrev pub us_low_after : Stacked BreakRow PeriodRow → ℕ → Duty → Stacked BreakRow PeriodRow
+abbrev pub us_low_after : Layered BreakRow PeriodRow → ℕ → Duty → Layered BreakRow PeriodRow
 us_low_after = both_move break_names break_after shift_names shift_after 1
 
 -- and the cycle
@@ -41,20 +41,20 @@ abbrev pub us_better : UsRow → UsRow → Type 0
 us_better a b = NoWorseCycle a.own b.own × (NoWorseBreak a.below.own b.below.own × NoWorse a.below.below b.below.below)
 
 abbrev pub EuRow : Type 0
-EuRow = Stacked WeeklyRestRow (Stacked WeeksRow (Stacked BreakRow PeriodRow))
+EuRow = Layered WeeklyRestRow (Layered WeeksRow (Layered BreakRow PeriodRow))
 
 -- day and break
-abbrev pub eu_low_names : Stacked BreakRow PeriodRow → ℕ → Duty → Option Violation
+abbrev pub eu_low_names : Layered BreakRow PeriodRow → ℕ → Duty → Option Violation
 eu_low_names = both_name break_names break_after day_names day_after 1
 
-abbrev pub eu_low_after : Stacked BreakRow PeriodRow → ℕ → Duty → Stacked BreakRow PeriodRow
+abbrev pub eu_low_after : Layered BreakRow PeriodRow → ℕ → Duty → Layered BreakRow PeriodRow
 eu_low_after = both_move break_names break_after day_names day_after 1
 
 -- and the weeks
-abbrev pub eu_mid_names : Stacked WeeksRow (Stacked BreakRow PeriodRow) → ℕ → Duty → Option Violation
+abbrev pub eu_mid_names : Layered WeeksRow (Layered BreakRow PeriodRow) → ℕ → Duty → Option Violation
 eu_mid_names = both_name weeks_names weeks_after eu_low_names eu_low_after 2
 
-abbrev pub eu_mid_after : Stacked WeeksRow (Stacked BreakRow PeriodRow) → ℕ → Duty → Stacked WeeksRow (Stacked BreakRow PeriodRow)
+abbrev pub eu_mid_after : Layered WeeksRow (Layered BreakRow PeriodRow) → ℕ → Duty → Layered WeeksRow (Layered BreakRow PeriodRow)
 eu_mid_after = both_move weeks_names weeks_after eu_low_names eu_low_after 2
 
 -- and the weekly rest

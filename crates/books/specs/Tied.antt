@@ -6,7 +6,7 @@ use Rattle.duty.specs.declared.Duty.{Duty}
 use Rattle.duty.specs.Logs.{at}
 use Rattle.rules.specs.declared.breach.Breach.{Breach}
 use Rattle.rules.specs.declared.breach.Violation.{Violation}
-use Rattle.rules.specs.declared.layered.Stacked.{Stacked}
+use Rattle.rules.specs.declared.layered.Layered.{Layered}
 use Rattle.rules.specs.Judged.{breach_at}
 use Rattle.rules.specs.Walk.{led, Allowed}
 use Rattle.rules.proofs.Along.{along_led, along_allowed, along_each}
@@ -63,7 +63,7 @@ module _ {S : Type 0} (names : S → ℕ → Duty → Option Violation) (after :
 
 -- a layer of rules over a set
 module _ {O U : Type 0} (nu : O → ℕ → Duty → Option Violation) (au : O → ℕ → Duty → O) (ou : O) (own : List Rule) (up : Tied nu au ou (own ∷ [])) (nl : U → ℕ → Duty → Option Violation) (al : U → ℕ → Duty → U) (ol : U) (set : List (List Rule)) (low : Tied nl al ol set) (few : length set < 255) where
-  abbrev both : List Duty → ℕ → Stacked O U
+  abbrev both : List Duty → ℕ → Layered O U
   both l k = record { own = up.state l k; below = low.state l k }
 
   pub tied-layer : Tied (both_name nu au nl al (length set)) (both_move nu au nl al (length set)) (record { own = ou; below = ol }) (set ++ own ∷ [])

@@ -35,9 +35,9 @@ impl RuleBook for DayOnly {
 
     const HIGHEST: u8 = 20;
 
-    ghost lowest = { 20 };
+    ghost LOWEST = { 20 };
 
-    ghost highest = { 20 };
+    ghost HIGHEST = { 20 };
 
     ghost figures = { λ b. b };
 
@@ -85,10 +85,6 @@ impl RuleBook for DayOnly {
 
     ghost owns = { Prim.search rules };
 
-    fn owned() -> (u8, u8) {
-        (Self::LOWEST, Self::HIGHEST)
-    }
-
     fn depth() -> u8 {
         1
     }
@@ -113,10 +109,6 @@ impl RuleBook for DayOnly {
     }
 
     fn step(&mut self, _quarter: usize, _duty: Duty) {}
-
-    fn dominates(&self, _other: &Self) -> bool {
-        true
-    }
 
     fn row(&self) -> DayOnly {
         *self

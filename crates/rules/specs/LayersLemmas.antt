@@ -3,7 +3,7 @@ use Rattle.std.specs.Prelude.{◌≡◌, ℕ, ◌+◌, min, ◌⊎◌, List, [],
 use Rattle.std.proofs.Common.{inl, inr, sym, ap, subst, ◌∙◌, arith}
 use Rattle.duty.specs.declared.Duty.{Duty}
 use Rattle.rules.specs.declared.breach.Violation.{Violation}
-use Rattle.rules.specs.declared.layered.Stacked.{Stacked}
+use Rattle.rules.specs.declared.layered.Layered.{Layered}
 use Rattle.rules.specs.Layers.{raised, first_named, moved}
 use Rattle.rules.specs.Piling.{both_name, both_move}
 use Rattle.rules.specs.Walk.{Allowed}
@@ -40,7 +40,7 @@ moved_same P None new old both = both
 moved_same P (Some v) new old both = ((λ h. h), (λ h. h))
 
 module _ {O U : Type 0} (nu : O → ℕ → Duty → Option Violation) (au : O → ℕ → Duty → O) (nl : U → ℕ → Duty → Option Violation) (al : U → ℕ → Duty → U) (n : ℕ) where
-  pub allowed_parts : (l : List Duty) (s : Stacked O U) (q : ℕ) → Allowed (both_name nu au nl al n) (both_move nu au nl al n) s q l → Allowed nl al s.below q l × Allowed nu au s.own q l
+  pub allowed_parts : (l : List Duty) (s : Layered O U) (q : ℕ) → Allowed (both_name nu au nl al n) (both_move nu au nl al n) s q l → Allowed nl al s.below q l × Allowed nu au s.own q l
   allowed_parts [] s q h = (tt, tt)
   allowed_parts (x ∷ l) s q h =
       let p = named_none n (nl s.below q x) (nu s.own q x) h.0 in
@@ -48,7 +48,7 @@ module _ {O U : Type 0} (nu : O → ℕ → Duty → Option Violation) (au : O �
       let k = allowed_parts l (record { own = au s.own q x; below = al s.below q x }) (q + 1) (subst (λ t. Allowed (both_name nu au nl al n) (both_move nu au nl al n) t (q + 1) l) e h.1) in
       ((p.0, k.0), (p.1, k.1))
 
-  pub allowed-both : (l : List Duty) (s : Stacked O U) (q : ℕ) → Allowed nl al s.below q l → Allowed nu au s.own q l → Allowed (both_name nu au nl al n) (both_move nu au nl al n) s q l
+  pub allowed-both : (l : List Duty) (s : Layered O U) (q : ℕ) → Allowed nl al s.below q l → Allowed nu au s.own q l → Allowed (both_name nu au nl al n) (both_move nu au nl al n) s q l
   allowed-both [] s q h k = tt
   allowed-both (x ∷ l) s q h k =
       let e = moved-both (nl s.below q x) (nu s.own q x) (record { own = au s.own q x; below = al s.below q x }) s h.0 k.0 in (

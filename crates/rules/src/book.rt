@@ -29,9 +29,9 @@ pub trait RuleBook: Copy + Drop {
     const HIGHEST: u8;
 
     // The same two, for clauses.
-    ghost lowest: { ℕ };
+    ghost LOWEST: { ℕ };
 
-    ghost highest: { ℕ };
+    ghost HIGHEST: { ℕ };
 
     // The state as plain figures, and which figures a state can have.
     ghost figures: { Self → Self.Row };
@@ -52,11 +52,6 @@ pub trait RuleBook: Copy + Drop {
 
     ghost layers: { ℕ };
 
-    // The lowest and the highest number of its own rules, by the constants.
-    fn owned() -> (u8, u8)
-        ensures lowest { result.0 ≡ lowest }
-        ensures highest { result.1 ≡ highest };
-
     // The number of layers, held at 255.
     fn depth() -> u8
         ensures { result ≡ layers };
@@ -75,7 +70,10 @@ pub trait RuleBook: Copy + Drop {
 
     // Whether this state is at least as well off as the other.
     fn dominates(&self, other: &Self) -> bool
-        ensures { Decides result (Self.Row.Figures.better (figures self.now) (figures other.now)) };
+        ensures { Decides result (Self.Row.Figures.better (figures self.now) (figures other.now)) }
+    {
+        self.row().dominates(&other.row())
+    }
 
     fn row(&self) -> Self::Row
         ensures { result ≡ figures self.now };
@@ -113,5 +111,5 @@ pub trait RuleBook: Copy + Drop {
     // A breach is named in one of the book's layers, and in its own, the topmost, by a rule of its own.
     ghost placed: { (s : Self.Row) (q : ℕ) (x : Duty) (v : Violation) → names s q x ≡ Some v → (1 ≤ v.layer) × (v.layer ≤ layers) };
 
-    ghost owns: { (s : Self.Row) (q : ℕ) (x : Duty) (v : Violation) → names s q x ≡ Some v → layers < 255 → v.layer ≡ layers → (lowest ≤ v.rule) × (v.rule ≤ highest) };
+    ghost owns: { (s : Self.Row) (q : ℕ) (x : Duty) (v : Violation) → names s q x ≡ Some v → layers < 255 → v.layer ≡ layers → (LOWEST ≤ v.rule) × (v.rule ≤ HIGHEST) };
 }

@@ -8,21 +8,14 @@ use crate::book::{Figures, RuleBook};
 use crate::breach::Violation;
 use duty::Duty;
 
-// A book of its own over the book below it.
+// A book of its own over the book below it, or the rows of the two.
 #[derive(Clone, Copy)]
 pub struct Layered<L, B> {
     pub own: L,
     pub below: B,
 }
 
-// The rows of the two.
-#[derive(Clone, Copy)]
-pub struct Stacked<O, U> {
-    pub own: O,
-    pub below: U,
-}
-
-impl<O: Figures, U: Figures> Figures for Stacked<O, U> {
+impl<O: Figures, U: Figures> Figures for Layered<O, U> {
     ghost better = { λ a b. O.Figures.better a.own b.own × U.Figures.better a.below b.below };
 
     ghost reflexive = { Prim.search rules };
@@ -48,15 +41,15 @@ fn raise(depth: u8, named: Option<Violation>) -> Option<Violation>
 }
 
 impl<L: RuleBook, B: RuleBook> RuleBook for Layered<L, B> {
-    type Row = Stacked<L::Row, B::Row>;
+    type Row = Layered<L::Row, B::Row>;
 
     const LOWEST: u8 = L::LOWEST;
 
     const HIGHEST: u8 = L::HIGHEST;
 
-    ghost lowest = { L.RuleBook.lowest };
+    ghost LOWEST = { L.RuleBook.LOWEST };
 
-    ghost highest = { L.RuleBook.highest };
+    ghost HIGHEST = { L.RuleBook.HIGHEST };
 
     ghost figures = { λ b. record { own = L.RuleBook.figures b.own; below = B.RuleBook.figures b.below } };
 
@@ -136,10 +129,6 @@ impl<L: RuleBook, B: RuleBook> RuleBook for Layered<L, B> {
               (omega (arith, h.0, up.2), omega (arith, h.1, up.2))
         ] };
 
-    fn owned() -> (u8, u8) {
-        L::owned()
-    }
-
     fn depth() -> u8 {
         B::depth().saturating_add(L::depth())
     }
@@ -165,12 +154,13 @@ impl<L: RuleBook, B: RuleBook> RuleBook for Layered<L, B> {
         }
     }
 
+    // By the two books, which makes no row of the pile.
     fn dominates(&self, other: &Self) -> bool {
         self.below.dominates(&other.below) && self.own.dominates(&other.own)
     }
 
     fn row(&self) -> Self::Row {
-        Stacked {
+        Layered {
             own: self.own.row(),
             below: self.below.row(),
         }

@@ -93,9 +93,9 @@ impl RuleBook for BreakState {
 
     const HIGHEST: u8 = 5;
 
-    ghost lowest = { 5 };
+    ghost LOWEST = { 5 };
 
-    ghost highest = { 5 };
+    ghost HIGHEST = { 5 };
 
     ghost figures = { break_row };
 
@@ -146,10 +146,6 @@ impl RuleBook for BreakState {
 
     ghost owns = { Prim.search rules };
 
-    fn owned() -> (u8, u8) {
-        (Self::LOWEST, Self::HIGHEST)
-    }
-
     fn depth() -> u8 {
         1
     }
@@ -173,10 +169,6 @@ impl RuleBook for BreakState {
         if self.verdict(quarter, duty).is_none() {
             *self = self.next(duty);
         }
-    }
-
-    fn dominates(&self, other: &Self) -> bool {
-        self.row().dominates(&other.row())
     }
 
     fn row(&self) -> BreakRow {

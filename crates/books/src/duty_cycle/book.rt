@@ -122,9 +122,9 @@ impl RuleBook for CycleState {
 
     const HIGHEST: u8 = 6;
 
-    ghost lowest = { 6 };
+    ghost LOWEST = { 6 };
 
-    ghost highest = { 6 };
+    ghost HIGHEST = { 6 };
 
     ghost figures = { cycle_row };
 
@@ -175,10 +175,6 @@ impl RuleBook for CycleState {
 
     ghost owns = { Prim.search rules };
 
-    fn owned() -> (u8, u8) {
-        (Self::LOWEST, Self::HIGHEST)
-    }
-
     fn depth() -> u8 {
         1
     }
@@ -202,10 +198,6 @@ impl RuleBook for CycleState {
         if self.verdict(quarter, duty).is_none() {
             *self = self.next(quarter.min(HORIZON - 1), duty);
         }
-    }
-
-    fn dominates(&self, other: &Self) -> bool {
-        self.row().dominates(&other.row())
     }
 
     fn row(&self) -> CycleRow {

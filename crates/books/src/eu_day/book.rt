@@ -40,9 +40,9 @@ impl RuleBook for EuDay {
 
     const HIGHEST: u8 = 4;
 
-    ghost lowest = { 3 };
+    ghost LOWEST = { 3 };
 
-    ghost highest = { 4 };
+    ghost HIGHEST = { 4 };
 
     ghost figures = { day_row };
 
@@ -90,10 +90,6 @@ impl RuleBook for EuDay {
 
     ghost owns = { Prim.search rules };
 
-    fn owned() -> (u8, u8) {
-        (Self::LOWEST, Self::HIGHEST)
-    }
-
     fn depth() -> u8 {
         1
     }
@@ -134,10 +130,6 @@ impl RuleBook for EuDay {
                 rest,
             };
         }
-    }
-
-    fn dominates(&self, other: &Self) -> bool {
-        self.row().dominates(&other.row())
     }
 
     fn row(&self) -> PeriodRow {

@@ -41,9 +41,9 @@ impl RuleBook for UsShift {
 
     const HIGHEST: u8 = 2;
 
-    ghost lowest = { 1 };
+    ghost LOWEST = { 1 };
 
-    ghost highest = { 2 };
+    ghost HIGHEST = { 2 };
 
     ghost figures = { shift_row };
 
@@ -91,10 +91,6 @@ impl RuleBook for UsShift {
 
     ghost owns = { Prim.search rules };
 
-    fn owned() -> (u8, u8) {
-        (Self::LOWEST, Self::HIGHEST)
-    }
-
     fn depth() -> u8 {
         1
     }
@@ -135,10 +131,6 @@ impl RuleBook for UsShift {
                 rest,
             };
         }
-    }
-
-    fn dominates(&self, other: &Self) -> bool {
-        self.row().dominates(&other.row())
     }
 
     fn row(&self) -> PeriodRow {

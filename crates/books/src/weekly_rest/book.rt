@@ -30,9 +30,9 @@ impl RuleBook for WeeklyRestState {
 
     const HIGHEST: u8 = 9;
 
-    ghost lowest = { 9 };
+    ghost LOWEST = { 9 };
 
-    ghost highest = { 9 };
+    ghost HIGHEST = { 9 };
 
     ghost figures = { weekly_rest_row };
 
@@ -80,10 +80,6 @@ impl RuleBook for WeeklyRestState {
 
     ghost owns = { Prim.search rules };
 
-    fn owned() -> (u8, u8) {
-        (Self::LOWEST, Self::HIGHEST)
-    }
-
     fn depth() -> u8 {
         1
     }
@@ -108,10 +104,6 @@ impl RuleBook for WeeklyRestState {
             let WeeklyRestRow { elapsed, rest } = self.row().next(duty);
             *self = WeeklyRestState { elapsed, rest };
         }
-    }
-
-    fn dominates(&self, other: &Self) -> bool {
-        self.row().dominates(&other.row())
     }
 
     fn row(&self) -> WeeklyRestRow {

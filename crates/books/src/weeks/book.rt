@@ -33,9 +33,9 @@ impl RuleBook for WeeksState {
 
     const HIGHEST: u8 = 8;
 
-    ghost lowest = { 7 };
+    ghost LOWEST = { 7 };
 
-    ghost highest = { 8 };
+    ghost HIGHEST = { 8 };
 
     ghost figures = { weeks_row };
 
@@ -83,10 +83,6 @@ impl RuleBook for WeeksState {
 
     ghost owns = { Prim.search rules };
 
-    fn owned() -> (u8, u8) {
-        (Self::LOWEST, Self::HIGHEST)
-    }
-
     fn depth() -> u8 {
         1
     }
@@ -119,10 +115,6 @@ impl RuleBook for WeeksState {
             let WeeksRow { this, last } = self.row().next(quarter.min(HORIZON - 1), duty);
             *self = WeeksState { this, last };
         }
-    }
-
-    fn dominates(&self, other: &Self) -> bool {
-        self.row().dominates(&other.row())
     }
 
     fn row(&self) -> WeeksRow {
