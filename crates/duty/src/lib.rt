@@ -2,6 +2,7 @@
 #![tactic(auto)]
 
 ghost use Rattle.std.specs.Prelude.{◌≡◌, ◌/◌, ◌%◌, ◌<◌, min, Some, ◌==◌};
+ghost use Rattle.std.specs.Result.{result_ok};
 ghost use Rattle.duty.specs.Duties.{letter_of, duty_of, resting, driving, working};
 ghost use Rattle.duty.specs.Runs.{next_run};
 
@@ -22,27 +23,49 @@ pub enum Duty {
     Drive,
 }
 
+// The byte is no R, W or D.
+#[derive(Clone, Copy, PartialEq, Eq, Debug)]
+pub struct NoLetter;
+
+// The duty status that a letter stands for: R, W or D.
+impl TryFrom<u8> for Duty {
+    type Error = NoLetter;
+
+    ghost try_from_gives = { λ letter r. result_ok r ≡ duty_of letter };
+
+    fn try_from(letter: u8) -> Result<Duty, NoLetter> {
+        match letter {
+            b'R' => Ok(Duty::Rest),
+            b'W' => Ok(Duty::Work),
+            b'D' => Ok(Duty::Drive),
+            _ => Err(NoLetter),
+        }
+    }
+}
+
+impl From<Duty> for u8 {
+    ghost from_gives = { λ duty letter. letter ≡ letter_of duty };
+
+    fn from(duty: Duty) -> u8 {
+        match duty {
+            Duty::Rest => b'R',
+            Duty::Work => b'W',
+            Duty::Drive => b'D',
+        }
+    }
+}
+
 impl Duty {
-    // The duty status that a letter stands for: R, W or D.
     pub fn from_letter(letter: u8) -> Option<Duty>
         ensures { result ≡ duty_of letter }
     {
-        match letter {
-            b'R' => Some(Duty::Rest),
-            b'W' => Some(Duty::Work),
-            b'D' => Some(Duty::Drive),
-            _ => None,
-        }
+        Duty::try_from(letter).ok()
     }
 
     pub fn letter(self) -> u8
         ensures { result ≡ letter_of self }
     {
-        match self {
-            Duty::Rest => b'R',
-            Duty::Work => b'W',
-            Duty::Drive => b'D',
-        }
+        u8::from(self)
     }
 
     pub fn is_rest(self) -> bool

@@ -27,19 +27,6 @@ impl<O: Figures, U: Figures> Figures for Layered<O, U> {
     }
 }
 
-// What a book over `depth` layers names: its own layer comes after those.
-fn raise(depth: u8, named: Option<Violation>) -> Option<Violation>
-    ensures { result ≡ raised depth named }
-{
-    match named {
-        None => None,
-        Some(Violation { rule, layer }) => {
-            let layer = depth.saturating_add(layer);
-            Some(Violation { rule, layer })
-        }
-    }
-}
-
 impl<L: RuleBook, B: RuleBook> RuleBook for Layered<L, B> {
     type Row = Layered<L::Row, B::Row>;
 
@@ -141,10 +128,11 @@ impl<L: RuleBook, B: RuleBook> RuleBook for Layered<L, B> {
     }
 
     fn verdict(&self, quarter: usize, duty: Duty) -> Option<Violation> {
-        match self.below.verdict(quarter, duty) {
-            Some(named) => Some(named),
-            None => raise(B::depth(), self.own.verdict(quarter, duty)),
-        }
+        self.below.verdict(quarter, duty).or_else(|| {
+            self.own
+                .verdict(quarter, duty)
+                .map(|named| named.over(B::depth()))
+        })
     }
 
     fn step(&mut self, quarter: usize, duty: Duty) {

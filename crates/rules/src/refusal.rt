@@ -1,8 +1,11 @@
 // Why a call is refused.
-ghost use Rattle.std.specs.Prelude.{◌≡◌};
-ghost use Rattle.rules.specs.Refusals.{number};
+ghost use Rattle.std.specs.Prelude.{◌≡◌, Some};
+ghost use Rattle.rules.specs.declared.refusal.Refusal.TheVariants.{Letter};
+ghost use Rattle.rules.specs.Refusals.{number, spelled};
 
 use crate::breach::Breach;
+use duty::NoLetter;
+use std::fmt;
 
 #[derive(Clone, Copy, PartialEq, Eq, Debug)]
 pub enum Refusal {
@@ -32,11 +35,19 @@ pub enum Refusal {
     Spelling,
 }
 
-impl Refusal {
-    pub fn number(self) -> u8
-        ensures { result ≡ number self }
-    {
-        match self {
+impl From<NoLetter> for Refusal {
+    ghost from_gives = { λ _ why. why ≡ Letter };
+
+    fn from(_wrong: NoLetter) -> Refusal {
+        Refusal::Letter
+    }
+}
+
+impl From<Refusal> for u8 {
+    ghost from_gives = { λ why n. n ≡ number why };
+
+    fn from(why: Refusal) -> u8 {
+        match why {
             Refusal::Letter => 1,
             Refusal::Horizon => 2,
             Refusal::Breach(_) => 3,
@@ -50,5 +61,26 @@ impl Refusal {
             Refusal::Labels => 11,
             Refusal::Spelling => 12,
         }
+    }
+}
+
+// The number, and for a breach the breach after it.
+impl fmt::Display for Refusal {
+    ghost output = { λ why. Some (spelled why) };
+
+    fn fmt<W: fmt::Write>(&self, f: &mut fmt::Formatter<W>) -> fmt::Result {
+        let number = u8::from(*self);
+        match *self {
+            Refusal::Breach(breach) => write!(f, "{number},{breach}"),
+            _ => write!(f, "{number}"),
+        }
+    }
+}
+
+impl Refusal {
+    pub fn number(self) -> u8
+        ensures { result ≡ number self }
+    {
+        u8::from(self)
     }
 }
