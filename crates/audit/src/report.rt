@@ -47,8 +47,7 @@ fn rule_text(set: RuleSet, rule: u8) -> &'static str {
 }
 
 pub(crate) fn refused(rt: &HostRuntime, why: Refusal) -> io::Result<()> {
-    let number = why.number();
-    println!(rt; "refused,{number}")?;
+    println!(rt; "refused,{why}")?;
     match why {
         Refusal::Letter => rt.println(
             "The log has a byte that is no R (rest), W (work) or D (driving).",
@@ -85,7 +84,7 @@ pub(crate) fn breached(
     let minute = quarter % 4 * 15;
     let week = quarter / 672 + 1;
     let text = rule_text(set, rule);
-    println!(rt; "breach,{quarter},{rule},{layer}")?;
+    println!(rt; "breach,{breach}")?;
     println!(rt; "Read {length} quarters under {name}: the first {quarter} are lawful.")?;
     println!(rt;
         "The quarter from {day} {hour:02}:{minute:02} of week {week} breaks rule {rule} (layer {layer}):"

@@ -9,19 +9,9 @@ pub struct Answer(pub Result<(usize, Option<Breach>), Refusal>);
 impl fmt::Display for Answer {
     fn fmt<W: fmt::Write>(&self, f: &mut fmt::Formatter<W>) -> fmt::Result {
         match self.0 {
-            Err(why) => {
-                let number = why.number();
-                write!(f, "refused,{number}")
-            }
+            Err(why) => write!(f, "refused,{why}"),
             Ok((length, None)) => write!(f, "lawful,{length}"),
-            Ok((_, Some(breach))) => {
-                let Breach {
-                    quarter,
-                    rule,
-                    layer,
-                } = breach;
-                write!(f, "breach,{quarter},{rule},{layer}")
-            }
+            Ok((_, Some(breach))) => write!(f, "breach,{breach}"),
         }
     }
 }

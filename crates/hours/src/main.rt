@@ -27,10 +27,7 @@ fn print_runs(rt: &HostRuntime, letters: &[u8]) -> io::Result<()> {
 fn print_answer(rt: &HostRuntime, answer: &Answer) -> io::Result<()> {
     match answer {
         Answer::Done => Ok(()),
-        Answer::Refused(why) => {
-            let number = why.number();
-            println!(rt; "refused,{number}")
-        }
+        Answer::Refused(why) => println!(rt; "refused,{why}"),
         Answer::Planned { end, letters } => {
             print_runs(rt, letters.as_slice())?;
             println!(rt; "end,{end}")

@@ -28,8 +28,7 @@ fn set_of(line: &str) -> Option<RuleSet> {
 }
 
 fn print_refusal(rt: &HostRuntime, why: Refusal) -> io::Result<()> {
-    let number = why.number();
-    println!(rt; "refused,{number}")
+    println!(rt; "refused,{why}")
 }
 
 // Prints the last of the answers; it is `done` where no plan was asked for.

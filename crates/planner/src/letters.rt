@@ -17,11 +17,11 @@ pub(crate) fn write_letters(trail: &[u16], width: usize, t: usize, place: usize,
     ensures written { (ls : List Duty) → Path trail.now width t place ls → take (t + 1) output.new ≡ map letter_of (ls ++ Work ∷ []) }
     ensures beyond { drop (t + 1) output.new ≡ drop (t + 1) output.old }
 {
-    output[t] = Duty::Work.letter();
+    output[t] = u8::from(Duty::Work);
     let mut label = place;
     for i in (0..t).rev() {
         let (from, duty) = decode(trail[i * width + label]);
-        output[i] = duty.letter();
+        output[i] = u8::from(duty);
         label = from;
     }
 }

@@ -2,29 +2,13 @@
 use planner::call::{Answer, Call};
 use planner::calls::run_calls;
 use rules::book::RuleBook;
-use rules::breach::Breach;
-use rules::refusal::Refusal;
 use std::io;
-
-fn print_refusal(rt: &HostRuntime, why: Refusal) -> io::Result<()> {
-    let number = why.number();
-    match why {
-        Refusal::Breach(
-            Breach {
-                quarter,
-                rule,
-                layer,
-            },
-        ) => println!(rt; "refused,{number},{quarter},{rule},{layer}"),
-        _ => println!(rt; "refused,{number}"),
-    }
-}
 
 // Of a plan its end and the count of its letters: which of the schedules is written is free.
 fn print_answer(rt: &HostRuntime, answer: &Answer) -> io::Result<()> {
     match answer {
         Answer::Done => println!(rt; "done"),
-        Answer::Refused(why) => print_refusal(rt, *why),
+        Answer::Refused(why) => println!(rt; "refused,{why}"),
         Answer::Planned { end, letters } => {
             let count = letters.len();
             println!(rt; "end,{end},{count}")

@@ -5,7 +5,7 @@ ghost use Rattle.planner.specs.Recorded.{Carried, Recorded};
 use super::DriverCard;
 use duty::{Duty, HORIZON};
 use rules::book::RuleBook;
-use rules::breach::{Breach, Violation};
+use rules::breach::Breach;
 use rules::refusal::Refusal;
 
 // Steps the book through the quarters of one status, up to the first breach.
@@ -15,12 +15,8 @@ fn carry<B: RuleBook>(book: &mut B, from: usize, count: usize, duty: Duty) -> Op
 {
     for passed in 0..count {
         let quarter = from + passed;
-        if let Some(Violation { rule, layer }) = book.verdict(quarter, duty) {
-            return Some(Breach {
-                quarter,
-                rule,
-                layer,
-            });
+        if let Some(named) = book.verdict(quarter, duty) {
+            return Some(named.at(quarter));
         }
         book.step(quarter, duty);
     }
@@ -57,9 +53,7 @@ impl<B: RuleBook> DriverCard<B> {
     pub fn record(&mut self, letter: u8, count: usize) -> Result<(), Refusal>
         ensures { Recorded B.RuleBook.names B.RuleBook.after (B.RuleBook.figures self.entry.now.book) self.entry.now.now letter count (B.RuleBook.figures self.exit.now.book) self.exit.now.now result }
     {
-        let Some(duty) = Duty::from_letter(letter) else {
-            return Err(Refusal::Letter);
-        };
+        let duty = Duty::try_from(letter)?;
         if count == 0 || count > HORIZON - self.now {
             return Err(Refusal::Horizon);
         }
