@@ -6,8 +6,7 @@
 use Rattle.std.specs.Prelude.{◌≡◌, ℕ, ◌-◌, List, [], ◌∷◌, ◌++◌, length, vec_items, codes, decimal}
 use Rattle.std.specs.List.{flat_map}
 use Rattle.rules.specs.declared.refusal.Refusal.{Refusal}
-use Rattle.rules.specs.declared.refusal.Refusal.TheVariants as why
-use Rattle.rules.specs.Refusals.{number}
+use Rattle.rules.specs.Refusals.{spelled}
 use Rattle.planner.specs.declared.call.Answer.{Answer}
 use Rattle.planner.specs.declared.call.Answer.TheVariants.{Done, Refused, Planned}
 use Rattle.replies.specs.declared.runs.Run.{Run}
@@ -16,23 +15,8 @@ use Rattle.replies.specs.Schedules.{RunsFrom}
 abbrev pub run_line : Run → List ℕ
 run_line run = decimal run.first ++ (codes "," ++ (run.letter ∷ codes "," ++ (decimal run.count ++ 10 ∷ [])))
 
--- what a breach adds to a refusal
-abbrev pub breach_fields : Refusal → List ℕ
-breach_fields why.Letter = []
-breach_fields why.Horizon = []
-breach_fields (why.Breach b) = codes "," ++ (decimal b.quarter ++ (codes "," ++ (decimal b.rule ++ (codes "," ++ decimal b.layer))))
-breach_fields why.TourFull = []
-breach_fields why.Field = []
-breach_fields why.NoStop = []
-breach_fields why.Sheet = []
-breach_fields why.Trail = []
-breach_fields why.Output = []
-breach_fields why.NoSchedule = []
-breach_fields why.Labels = []
-breach_fields why.Spelling = []
-
 abbrev pub refused_line : ℕ → Refusal → List ℕ
-refused_line n r = codes "refused," ++ (decimal n ++ (codes "," ++ (decimal (number r) ++ (breach_fields r ++ 10 ∷ []))))
+refused_line n r = codes "refused," ++ (decimal n ++ (codes "," ++ (spelled r ++ 10 ∷ [])))
 
 -- a schedule begins as many quarters before its end as it has letters
 abbrev pub PlanLines : ℕ → ℕ → List ℕ → List ℕ → Type 0

@@ -21,7 +21,7 @@ pub fn printed(heap: Global, text: &[u8]) -> Result<Vec<u8>, AllocError>
             Ok(output)
         }
         Err(why) => {
-            let number = why.number();
+            let number = u8::from(why);
             let line = format!(in heap; "refused,0,{number}\n")?;
             Ok(line.into_bytes())
         }

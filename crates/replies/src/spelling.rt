@@ -5,7 +5,6 @@ ghost use Rattle.replies.specs.Spelled.{run_line, refused_line, PlanLines, Answe
 
 use crate::runs::{Run, runs_of};
 use planner::call::Answer;
-use rules::breach::Breach;
 use rules::refusal::Refusal;
 use std::alloc::{AllocError, Global};
 
@@ -30,17 +29,7 @@ fn write_run(heap: Global, reply: &mut Vec<u8>, run: Run) -> Result<(), AllocErr
 fn refusal_line(heap: Global, place: usize, why: Refusal) -> Result<String, AllocError>
     ensures { IfOk result (λ line. string_bytes line ≡ refused_line place why) }
 {
-    let number = why.number();
-    match why {
-        Refusal::Breach(
-            Breach {
-                quarter,
-                rule,
-                layer,
-            },
-        ) => format!(in heap; "refused,{place},{number},{quarter},{rule},{layer}\n"),
-        _ => format!(in heap; "refused,{place},{number}\n"),
-    }
+    format!(in heap; "refused,{place},{why}\n")
 }
 
 // Writes that line.

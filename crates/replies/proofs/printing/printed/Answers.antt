@@ -36,7 +36,7 @@ returns-in_ok-line-in-Err c =
     let room : length before ≡ 65536 = omega (arith, c.as_mut_slice.ensures.len, c.in_ok-output.ensures.len) in
     record {
       value = refusal_printed text before after (vec_items c.into_bytes.result) why room answered
-          (written c.in_ok-line-in-Err.line c.into_bytes.result c.number-number.result why c.into_bytes.ensures.value c.in_ok-line-in-Err.ensures.ok c.number-number.ensures);
+          (written c.in_ok-line-in-Err.line c.into_bytes.result c.from-number.result why c.into_bytes.ensures.value c.in_ok-line-in-Err.ensures.ok c.from-number.ensures);
       breaches = breaches_first;
     }
 
