@@ -56,18 +56,6 @@ impl From<Duty> for u8 {
 }
 
 impl Duty {
-    pub fn from_letter(letter: u8) -> Option<Duty>
-        ensures { result ≡ duty_of letter }
-    {
-        Duty::try_from(letter).ok()
-    }
-
-    pub fn letter(self) -> u8
-        ensures { result ≡ letter_of self }
-    {
-        u8::from(self)
-    }
-
     pub fn is_rest(self) -> bool
         ensures { result ≡ resting self }
     {

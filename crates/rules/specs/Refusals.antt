@@ -1,7 +1,7 @@
 -- The number of each refusal, and how refusals are spelled. Assumes nothing.
---   number r           its number
---   breach_fields b    a breach's quarter, rule and layer in decimal digits, with commas between them
---   spelled r          the refusal's number in decimal digits, and for a breach those after one more comma
+--   number r            its number
+--   spelled_breach b    a breach's quarter, rule and layer in decimal digits, with commas between them
+--   spelled r           the refusal's number in decimal digits, and for a breach what spells that after one more comma
 use Rattle.std.specs.Prelude.{ℕ, List, [], ◌++◌, codes, decimal}
 use Rattle.rules.specs.declared.breach.Breach.{Breach}
 use Rattle.rules.specs.declared.refusal.Refusal.{Refusal}
@@ -21,14 +21,14 @@ number why.NoSchedule = 10
 number why.Labels = 11
 number why.Spelling = 12
 
-abbrev pub breach_fields : Breach → List ℕ
-breach_fields b = decimal b.quarter ++ (codes "," ++ (decimal b.rule ++ (codes "," ++ decimal b.layer)))
+abbrev pub spelled_breach : Breach → List ℕ
+spelled_breach b = decimal b.quarter ++ (codes "," ++ (decimal b.rule ++ (codes "," ++ decimal b.layer)))
 
 -- what a breach adds to the number
 abbrev pub added : Refusal → List ℕ
 added why.Letter = []
 added why.Horizon = []
-added (why.Breach b) = codes "," ++ breach_fields b
+added (why.Breach b) = codes "," ++ spelled_breach b
 added why.TourFull = []
 added why.Field = []
 added why.NoStop = []

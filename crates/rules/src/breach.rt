@@ -1,6 +1,6 @@
 // What is said of a log that does not keep the rules.
 ghost use Rattle.std.specs.Prelude.{◌≡◌, ◌+◌, min, Some};
-ghost use Rattle.rules.specs.Refusals.{breach_fields};
+ghost use Rattle.rules.specs.Refusals.{spelled_breach};
 
 use std::fmt;
 
@@ -44,7 +44,7 @@ pub struct Breach {
 }
 
 impl fmt::Display for Breach {
-    ghost output = { λ b. Some (breach_fields b) };
+    ghost output = { λ b. Some (spelled_breach b) };
 
     fn fmt<W: fmt::Write>(&self, f: &mut fmt::Formatter<W>) -> fmt::Result {
         let Breach {

@@ -76,11 +76,3 @@ impl fmt::Display for Refusal {
         }
     }
 }
-
-impl Refusal {
-    pub fn number(self) -> u8
-        ensures { result ≡ number self }
-    {
-        u8::from(self)
-    }
-}
