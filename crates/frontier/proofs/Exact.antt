@@ -1,7 +1,11 @@
--- An offer leads to one list, at most one longer than what was kept. Assumes nothing.
-use Rattle.std.proofs.Common.{◌≡◌, ◌+◌, ◌≤◌, List, [], ◌∷◌, ◌++◌, length, sym, ap, ◌∙◌, inl, inr, arith}
+-- An offer leads to one list, at most one longer than what was kept, and with a place left it is taken. Assumes nothing.
+use Rattle.std.proofs.Common.{◌≡◌, ◌+◌, ◌<◌, ◌≤◌, List, [], ◌∷◌, ◌++◌, length, Result, Ok, Err, IfOk, MatchResult, sym, ap, ◌∙◌, inl, inr, arith}
 use Rattle.std.proofs.lemmas.List.{length_push}
-use Rattle.frontier.specs.Offer.{Offered}
+use Rattle.frontier.specs.Cover.{StillSmallest}
+use Rattle.frontier.specs.Offer.{Offered, LacksPlace}
+use Rattle.frontier.specs.Places.{all, kept}
+use Rattle.frontier.specs.declared.container.Frontier.{Frontier}
+use Rattle.frontier.specs.declared.refusal.Refusal.{Refusal}
 use Rattle.frontier.proofs.Lefts.{without_unique, without_shorter}
 
 module _ {X : Type 0} (covers : X → X → Type 0) (kept : List X) (x : X) where
@@ -16,3 +20,13 @@ module _ {X : Type 0} (covers : X → X → Type 0) (kept : List X) (x : X) wher
   offered-length after (inl o) = omega (arith, ap length o.1)
   offered-length after (inr o) =
       omega (arith, ap length o.1.2, length_push o.1.0 x, without_shorter covers x kept o.1.0 o.1.1)
+
+module _ {X : Type 0} (covers : X → X → Type 0) where
+  pub taken : (f g : Frontier X) (x : X) (r : Result (Unit {0}) Refusal)
+      → MatchResult r (λ _. Offered covers (kept f) x (kept g)) (λ why. LacksPlace covers (all f) (kept f) x why)
+      → IfOk r (λ _. StillSmallest covers (kept f) x (kept g))
+      → length (kept f) < length (all f)
+      → (length (kept g) ≤ length (kept f) + 1) × StillSmallest covers (kept f) x (kept g)
+  taken f g x (Ok _) value still room = (offered-length covers (kept f) x (kept g) value, still)
+  taken f g x (Err why) value still room =
+      absurd (omega (arith, offered-length covers (kept f) x value.1.0 value.1.1, value.1.2))

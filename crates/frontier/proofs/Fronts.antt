@@ -3,11 +3,10 @@ use Rattle.std.proofs.Common.{◌≡◌, ℕ, ◌≤◌, List, length, take, ap,
 use Rattle.std.proofs.lemmas.List.{length-take}
 use Rattle.frontier.specs.Places.{all, kept}
 use Rattle.frontier.specs.declared.container.Frontier.{Frontier}
-use Rattle.frontier.proofs.Outcome.{take_within}
 
 module _ {X : Type 0} where
   pub front : (f : Frontier X) (places : List X) (n : ℕ) → n ≡ length (kept f) → places ≡ all f → take n places ≡ kept f
-  front f places n is same = ap (take n) same ∙ take_within (all f) f.count n (is ∙ length-take f.count (all f))
+  front f places n is same = ap (take n) same ∙ ap (λ k. take k (all f)) (omega (arith, length-take f.count (all f), f.fits))
 
   pub front_fits : (f : Frontier X) (places : List X) (n : ℕ) → n ≡ length (kept f) → places ≡ all f → n ≤ length places
   front_fits f places n is same = omega (arith, length-take f.count (all f), ap length same)

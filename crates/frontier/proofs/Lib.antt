@@ -3,6 +3,7 @@ pub mod Pigeonhole
 pub mod Smallest
 pub mod Lefts
 pub mod Growth
+pub mod Asking
 pub mod Turns
 pub mod Outcome
 pub mod Fronts

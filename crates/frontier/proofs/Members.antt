@@ -1,5 +1,7 @@
 -- Lemmas on the words of specs/Lists.antt. Assumes nothing.
-use Rattle.std.proofs.Common.{◌≡◌, ◌⊎◌, List, [], ◌∷◌, ◌++◌, sym, refl, ◌∙◌, subst, inl, inr, ⊎_elim}
+use Rattle.std.proofs.Common.{◌≡◌, ◌⊎◌, ℕ, zero, suc, ◌<◌, List, [], ◌∷◌, ◌++◌, length, sym, refl, ◌∙◌, subst, inl, inr, ⊎_elim, arith}
+use Rattle.std.specs.List.{All, HoldsAt}
+use Rattle.std.proofs.lemmas.List.Elements.{All-head, All-tail}
 use Rattle.frontier.specs.Lists.{In, Subsequence, Pairwise}
 
 module _ {X : Type 0} where
@@ -19,6 +21,19 @@ module _ {X : Type 0} where
 
   pub in-push_cases : (x y : X) (xs : List X) → In x (xs ++ (y ∷ [])) → In x xs ⊎ (y ≡ x)
   in-push_cases x y xs h = ⊎_elim inl (⊎_elim inr (λ none. absurd none)) (in_cases x xs (y ∷ []) h)
+
+  -- what holds at some index holds of one of them, and what holds at each holds of each
+  pub some_in : (P : X → Type 0) (xs : List X) (k : ℕ) → k < length xs → HoldsAt P xs k → (y : X) × In y xs × P y
+  some_in P [] k within here = absurd (omega arith)
+  some_in P (x ∷ xs) zero within here = (x, inl refl, here x)
+  some_in P (x ∷ xs) (suc k) within here =
+      let one = some_in P xs k (omega arith) here in
+      (one.0, inr one.1, one.2)
+
+  pub all_in : (P : X → Type 0) (xs : List X) (y : X) → All P xs → In y xs → P y
+  all_in P [] y all h = absurd h
+  all_in P (x ∷ xs) y all (inl e) = subst P e (All-head P x xs all)
+  all_in P (x ∷ xs) y all (inr h) = all_in P xs y (All-tail P x xs all) h
 
   pub subsequence-in : (x : X) (xs ys : List X) → Subsequence xs ys → In x xs → In x ys
   subsequence-in x [] ys s h = absurd h

@@ -1,20 +1,23 @@
 // The frontier: it keeps, at the front of a lent slice, a smallest cover of what was offered to it.
-ghost use Rattle.std.specs.Prelude.{◌≡◌, [], length, MatchResult, OnErr, OnOk};
-ghost use Rattle.frontier.specs.Cover.{SmallestCover, StillSmallest};
-ghost use Rattle.frontier.specs.Offer.{Offered, LacksPlace};
-ghost use Rattle.frontier.specs.Places.{all, kept, Same, SameBeyond};
+ghost use Rattle.std.specs.Prelude.{◌≡◌, ◌≤◌, [], length, MatchResult, OnErr, OnOk};
 
 use crate::order::Covers;
-use crate::passes::keep;
+use crate::passes::{compact, is_covered};
 use crate::refusal::Refusal;
 
+// The places are memory that the caller lends, and the first `count` of them are kept.
 #[derive(Drop)]
 pub struct Frontier<'a, T> {
     places: &'a mut [T],
     count: usize,
+    ghost fits: { count ≤ length places.now },
 }
 
 impl<'a, T: Covers> Frontier<'a, T> {
+    ghost use Rattle.frontier.specs.Cover.{SmallestCover, StillSmallest};
+    ghost use Rattle.frontier.specs.Offer.{Offered, LacksPlace};
+    ghost use Rattle.frontier.specs.Places.{all, kept, Same, SameBeyond};
+
     // Opened empty: what stands in the places is left there, and none of it is kept.
     pub fn new(places: &'a mut [T]) -> Frontier<'a, T>
         ensures empty { kept result ≡ [] }
@@ -28,14 +31,13 @@ impl<'a, T: Covers> Frontier<'a, T> {
     pub fn kept(&self) -> &[T]
         ensures { result.now ≡ kept self.now }
     {
-        let count = self.count.min(self.places.len());
-        &self.places[0..count]
+        &self.places[..self.count]
     }
 
     pub fn count(&self) -> usize
         ensures { result ≡ length (kept self.now) }
     {
-        self.kept().len()
+        self.count
     }
 
     // All the places: the kept elements first, and then what stands beyond them.
@@ -55,8 +57,16 @@ impl<'a, T: Covers> Frontier<'a, T> {
         ensures room { length (all self.new) ≡ length (all self.old) }
         ensures lender { self.new.places.ghost_name ≡ self.old.places.ghost_name }
     {
-        let count = self.count;
-        self.count = keep(self.places, count, x)?;
+        if is_covered(self.kept(), &x) {
+            return Ok(());
+        }
+        let left = compact(&mut self.places[..self.count], &x);
+        let full = left == self.places.len();
+        if full {
+            return Err(Refusal::Full);
+        }
+        self.places[left] = x;
+        self.count = left + 1;
         Ok(())
     }
 }

@@ -1,13 +1,12 @@
 -- What a frontier keeps that is offered, one by one, what stands in its own places. Assumes nothing.
-use Rattle.std.proofs.Common.{◌≡◌, ℕ, ◌+◌, ◌<◌, ◌≤◌, List, [], ◌∷◌, ◌++◌, length, get_or, take, drop, IfOk, Ok, Err, Result, sym, ap, ◌∙◌, subst, arith, MatchResult}
-use Rattle.std.proofs.lemmas.List.{take_all, take_more, drop_more}
+use Rattle.std.proofs.Common.{◌≡◌, ℕ, ◌+◌, ◌-◌, ◌<◌, ◌≤◌, List, [], ◌∷◌, ◌++◌, length, get_or, take, drop, IfOk, Result, sym, ap, ◌∙◌, subst, arith, MatchResult}
+use Rattle.std.proofs.lemmas.List.{take_more, drop_more, drop-drop}
 use Rattle.frontier.specs.Cover.{SmallestCover, StillSmallest}
 use Rattle.frontier.specs.Offer.{Offered, LacksPlace}
 use Rattle.frontier.specs.Places.{all, kept, SameBeyond}
 use Rattle.frontier.specs.declared.container.Frontier.{Frontier}
 use Rattle.frontier.specs.declared.refusal.Refusal.{Refusal}
-use Rattle.frontier.proofs.Exact.{offered-length}
-use Rattle.frontier.proofs.Outcome.{drop_later}
+use Rattle.frontier.proofs.Exact.{taken}
 use Rattle.frontier_pairs.specs.Pairs.{NoLarger}
 use Rattle.frontier_pairs.specs.declared.pair.Pair.{Pair}
 
@@ -18,35 +17,26 @@ pub record Moved (xs : List Pair) (f : Frontier Pair) (i : ℕ) : Type 0 where
   pub rest : drop i (all f) ≡ drop i xs
   pub long : length (all f) ≡ length xs
 
--- with a place left an offer is taken
-taken : (f g : Frontier Pair) (x : Pair) (r : Result (Unit {0}) Refusal)
-    → MatchResult r (λ _. Offered NoLarger (kept f) x (kept g)) (λ why. LacksPlace NoLarger (all f) (kept f) x why)
-    → IfOk r (λ _. StillSmallest NoLarger (kept f) x (kept g))
-    → length (kept f) < length (all f)
-    → Offered NoLarger (kept f) x (kept g) × StillSmallest NoLarger (kept f) x (kept g)
-taken f g x (Ok _) value still room = (value, still)
-taken f g x (Err why) value still room =
-    absurd (omega (arith, offered-length NoLarger (kept f) x value.1.0 value.1.1, value.1.2))
+drop_later : {X : Type 0} (xs ys : List X) (n m : ℕ) → n ≤ m → drop n ys ≡ drop n xs → drop m ys ≡ drop m xs
+drop_later xs ys n m le e =
+    let split : m ≡ n + (m - n) = omega arith in
+    rw split (rw (← drop-drop (m - n) n ys, ← drop-drop (m - n) n xs) (ap (drop (m - n)) e))
 
-pub moved_more : (xs : List Pair) (f g : Frontier Pair) (i : ℕ) (x d : Pair) (r : Result (Unit {0}) Refusal)
-    → Moved xs f i → i < length xs → x ≡ get_or (all f) i d
+pub moved_more : (xs places : List Pair) (f g : Frontier Pair) (i : ℕ) (x d : Pair) (r : Result (Unit {0}) Refusal)
+    → Moved xs f i → i < length xs → places ≡ all f → x ≡ get_or places i d
     → MatchResult r (λ _. Offered NoLarger (kept f) x (kept g)) (λ why. LacksPlace NoLarger (all f) (kept f) x why)
     → IfOk r (λ _. StillSmallest NoLarger (kept f) x (kept g))
     → SameBeyond f g → length (all g) ≡ length (all f)
     → Moved xs g (i + 1)
-moved_more xs f g i x d r m within read value still beyond long =
-    let both = taken f g x r value still (omega (arith, m.fewer, m.long)) in
-    let more = offered-length NoLarger (kept f) x (kept g) both.0 in
+moved_more xs places f g i x d r m within same read value still beyond long =
+    let both = taken NoLarger f g x r value still (omega (arith, m.fewer, m.long)) in
     let heads : get_or (all f) i d ∷ drop (i + 1) (all f) ≡ get_or xs i d ∷ drop (i + 1) xs =
     sym (drop_more (all f) i d (omega (arith, m.long))) ∙ m.rest ∙ drop_more xs i d within in
-    let here : x ≡ get_or xs i d = read ∙ ap (λ l. get_or l 0 d) heads in
+    let here : x ≡ get_or xs i d = read ∙ ap (λ l. get_or l i d) same ∙ ap (λ l. get_or l 0 d) heads in
     let seen : take i xs ++ (x ∷ []) ≡ take (i + 1) xs = ap (λ y. take i xs ++ (y ∷ [])) here ∙ sym (take_more xs i d within) in
     record {
       smallest = subst (SmallestCover NoLarger (kept g)) seen (both.1 (take i xs) m.smallest);
-      fewer = omega (arith, more, m.fewer);
-      rest = drop_later (all f) (all g) _ (i + 1) (omega (arith, more, m.fewer)) beyond ∙ ap (drop 1) heads;
+      fewer = omega (arith, both.0, m.fewer);
+      rest = drop_later (all f) (all g) _ (i + 1) (omega (arith, both.0, m.fewer)) beyond ∙ ap (drop 1) heads;
       long = long ∙ m.long;
     }
-
-pub moved_all : (xs : List Pair) (f : Frontier Pair) (i : ℕ) → Moved xs f i → length xs ≤ i → SmallestCover NoLarger (kept f) xs
-moved_all xs f i m end = subst (SmallestCover NoLarger (kept f)) (take_all i xs end) m.smallest

@@ -37,6 +37,7 @@ pub(crate) fn choose_in_place(pairs: &mut [Pair]) -> usize
 {
     let count = pairs.len();
     let mut frontier = Frontier::new(pairs);
+    // By index, since the frontier writes the slice that is read.
     for i in 0..count {
         let pair = frontier.places()[i];
         let _ = frontier.offer(pair);

@@ -20,59 +20,43 @@ fn times(rt: &HostRuntime) -> anyhow::Result<u32> {
     }
 }
 
-fn print_pairs(rt: &HostRuntime, pairs: &[Pair]) -> io::Result<()> {
-    for pair in pairs {
+fn print_kept(rt: &HostRuntime, kept: &[Pair]) -> io::Result<()> {
+    println!(rt; "{} kept", kept.len())?;
+    for pair in kept {
         println!(rt; "{pair}")?;
     }
     Ok(())
 }
 
 fn print_choice(rt: &HostRuntime, pairs: &[Pair]) -> anyhow::Result<()> {
-    let mut places = vec![in rt.alloc(); Pair {
-        first: 0,
-        second: 0
-    }; pairs.len()]?;
+    let mut places = vec![in rt.alloc(); Pair::default(); pairs.len()]?;
     match choose_often(pairs, places.as_mut_slice(), times(rt)?) {
-        Ok(count) => {
-            println!(rt; "{count} kept")?;
-            print_pairs(rt, &places.as_slice()[0..count])?;
-        }
-        Err(why) => {
-            let number = why.number();
-            println!(rt; "refused: {number}")?;
-        }
+        Ok(count) => print_kept(rt, &places.as_slice()[..count])?,
+        Err(why) => println!(rt; "refused: {why}")?,
     }
     Ok(())
 }
 
 // The same with too few places, where the first pair that lacks one is refused.
-fn print_few(rt: &HostRuntime, pairs: &[Pair]) -> anyhow::Result<()> {
-    let mut places = [Pair {
-        first: 0,
-        second: 0,
-    }; 4];
+fn print_few(rt: &HostRuntime, pairs: &[Pair]) -> io::Result<()> {
+    let mut places = [Pair::default(); 4];
     let mut frontier = Frontier::new(&mut places);
     if let Err(why) = offer_all(&mut frontier, pairs) {
-        let number = why.number();
-        println!(rt; "refused: {number}")?;
+        println!(rt; "refused: {why}")?;
     }
-    let count = frontier.count();
-    println!(rt; "{count} kept")?;
-    print_pairs(rt, frontier.kept())?;
-    Ok(())
+    print_kept(rt, frontier.kept())
 }
 
 // The same with no other places than those that the pairs stand in.
-fn print_in_place(rt: &HostRuntime, pairs: &mut [Pair]) -> anyhow::Result<()> {
+fn print_in_place(rt: &HostRuntime, pairs: &mut [Pair]) -> io::Result<()> {
     let count = choose_in_place(pairs);
-    println!(rt; "{count} kept")?;
-    print_pairs(rt, &pairs[0..count])?;
-    Ok(())
+    print_kept(rt, &pairs[..count])
 }
 
 fn main(rt: HostRuntime) -> anyhow::Result<()> {
     let mut pairs = read_pairs(&rt)?;
     print_choice(&rt, pairs.as_slice())?;
     print_few(&rt, pairs.as_slice())?;
-    print_in_place(&rt, pairs.as_mut_slice())
+    print_in_place(&rt, pairs.as_mut_slice())?;
+    Ok(())
 }

@@ -7,7 +7,7 @@ ghost use Rattle.std.proofs.Common.{rules};
 use frontier::Covers;
 use std::fmt;
 
-#[derive(Clone, Copy)]
+#[derive(Clone, Copy, Default)]
 pub struct Pair {
     pub first: u32,
     pub second: u32,
@@ -29,8 +29,6 @@ impl fmt::Display for Pair {
     ghost output = { λ p. Some (written p) };
 
     fn fmt<W: fmt::Write>(&self, f: &mut fmt::Formatter<W>) -> fmt::Result {
-        let first = self.first;
-        let second = self.second;
-        write!(f, "{first} {second}")
+        write!(f, "{} {}", self.first, self.second)
     }
 }

@@ -8,13 +8,13 @@ pub loop-i-preserved : goal.loop-i-preserved
 loop-i-preserved g c =
     elim c.if-not-covers.branch [
       | then-not-covers w ↦ rw w.left-is
-          (compacting_stays g.T.Covers.covers c.args.x.now c.index-places-i.result c.loop-i.invariant
-          (omega arith) c.index-places-i.is (not_from_Decides _ c.covers.ensures w.if-not-covers.true))
+          (compacting_stays g.T.Covers.covers c.args.x.now c.index-kept-i.result c.loop-i.invariant
+          (omega arith) c.index-kept-i.is (not_from_Decides _ c.covers.ensures w.if-not-covers.true))
       | else-not-covers w ↦ rw w.left-is
-          (compacting_leaves g.T.Covers.covers c.args.x.now c.index-places-i.result c.loop-i.invariant
-          (omega arith) c.index-places-i.is (c.covers.ensures.0 w.if-not-covers.false))
+          (compacting_leaves g.T.Covers.covers c.args.x.now c.index-kept-i.result c.loop-i.invariant
+          (omega arith) c.index-kept-i.is (c.covers.ensures.0 w.if-not-covers.false))
     ]
 
 pub loop-i-init : goal.loop-i-init
 loop-i-init g c =
-    compacting_from g.T.Covers.covers c.args.x.now c.args.places.now c.uncovered-stay.result (omega (arith, c.uncovered-stay.ensures.fewer)) c.uncovered-stay.ensures.stay
+    compacting_from g.T.Covers.covers c.args.x.now c.args.kept.now c.uncovered-stay.result (omega (arith, c.uncovered-stay.ensures.fewer)) c.uncovered-stay.ensures.stay

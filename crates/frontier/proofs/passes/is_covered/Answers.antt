@@ -1,16 +1,14 @@
-use Rattle.std.proofs.Common.{refl, arith}
+use Rattle.std.proofs.Common.{rules}
+use Rattle.std.proofs.lemmas.Iterator.{cases_from_any, YieldsList-from_slice}
 use Rattle.std.proofs.lemmas.Bool.Decides.{not_from_Decides}
-use Rattle.frontier.proofs.Turns.{covered_here, uncovered_more}
+use Rattle.frontier.proofs.Asking.{covered_decided}
 use Rattle.frontier.proofs.passes.is_covered.Goals as goal
 
-pub returns-then-covers : goal.returns-then-covers
-returns-then-covers g c = (
-  λ _. covered_here g.T.Covers.covers c.args.x.now c.args.places.now c.loop-i.i c.args.count _
-      c.loop-i-test.true (omega arith) c.index-places-i.is (c.covers.ensures.0 c.if-covers.true),
-  λ _. refl,
-)
-
-pub loop-i-preserved : goal.loop-i-preserved
-loop-i-preserved g c =
-    uncovered_more g.T.Covers.covers c.args.x.now c.args.places.now c.loop-i.i _
-    (omega arith) c.index-places-i.is c.loop-i.invariant (not_from_Decides _ c.covers.ensures c.if-covers.false)
+pub returns : goal.returns
+returns g c =
+    let covers = g.T.Covers.covers in
+    let xs = c.args.kept.now in
+    let x = c.args.x.now in
+    covered_decided covers x xs _
+    (cases_from_any _ _ _ (λ y. covers y x) (λ y. covers y x → ⊥) c.any.ensures.ran (YieldsList-from_slice xs cc)
+    (λ y q k. search rules) (λ y q k. search (rules, not_from_Decides)))

@@ -1,9 +1,15 @@
-use Rattle.std.proofs.Common.{arith}
+use Rattle.std.proofs.Common.{rules}
+use Rattle.std.proofs.lemmas.Iterator.{IsFirst-from_position, YieldsList-from_slice}
 use Rattle.std.proofs.lemmas.Bool.Decides.{not_from_Decides}
-use Rattle.frontier.proofs.Turns.{staying_more}
+use Rattle.frontier.proofs.Asking.{staying}
 use Rattle.frontier.proofs.passes.uncovered.Goals as goal
 
-pub loop-i-preserved : goal.loop-i-preserved
-loop-i-preserved g c =
-    staying_more g.T.Covers.covers c.args.x.now c.args.places.now c.loop-i.i _
-    (omega arith) c.index-places-i.is c.loop-i.invariant (not_from_Decides _ c.covers.ensures c.if-covers.false)
+pub returns : goal.returns
+returns g c =
+    let covers = g.T.Covers.covers in
+    let xs = c.args.kept.now in
+    let x = c.args.x.now in
+    let both = staying covers x xs c.position.result c.unwrap_or.result (search rules)
+    (IsFirst-from_position _ _ _ (λ y. covers x y) (λ y. covers x y → ⊥) c.position.ensures.ran (YieldsList-from_slice xs cc)
+    (λ y q k. search rules) (λ y q k. search (rules, not_from_Decides))) in
+    record { fewer = both.0; stay = both.1 }
