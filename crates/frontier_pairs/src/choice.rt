@@ -1,9 +1,9 @@
 // Which pairs are kept of those that are offered in turn.
-ghost use Rattle.std.specs.Prelude.{◌≡◌, ◌≤◌, List, ◌++◌, length, take, IfOk, MatchResult};
+ghost use Rattle.std.specs.Prelude.{◌≡◌, List, ◌++◌, MatchResult};
 ghost use Rattle.frontier.specs.Cover.{SmallestCover};
 ghost use Rattle.frontier.specs.Number.{number};
 ghost use Rattle.frontier.specs.Places.{kept};
-ghost use Rattle.frontier_pairs.specs.Pairs.{NoLarger};
+ghost use Rattle.frontier_pairs.specs.Pairs.{NoLarger, Chosen};
 
 use crate::pair::Pair;
 use frontier::{Frontier, Refusal};
@@ -21,8 +21,7 @@ pub(crate) fn offer_all(frontier: &mut Frontier<'_, Pair>, pairs: &[Pair]) -> Re
 
 // Leaves a smallest cover of `pairs` at the front of `places`, and says how many they are.
 pub(crate) fn choose(pairs: &[Pair], places: &mut [Pair]) -> Result<usize, Refusal>
-    ensures smallest { MatchResult result (λ n. SmallestCover NoLarger (take n places.new) pairs.now) (λ why. number why ≡ 11) }
-    ensures within { IfOk result (λ n. n ≤ length places.new) }
+    ensures { MatchResult result (λ n. Chosen n places.new pairs.now) (λ why. number why ≡ 11) }
 {
     let mut frontier = Frontier::new(places);
     offer_all(&mut frontier, pairs)?;
@@ -32,8 +31,7 @@ pub(crate) fn choose(pairs: &[Pair], places: &mut [Pair]) -> Result<usize, Refus
 // Leaves a smallest cover of the pairs that stand in the slice at its front, and says how many they are.
 // Each is offered from where it stands to a frontier over the same slice, which keeps fewer than came before it.
 pub(crate) fn choose_in_place(pairs: &mut [Pair]) -> usize
-    ensures smallest { SmallestCover NoLarger (take result pairs.new) pairs.old }
-    ensures within { result ≤ length pairs.new }
+    ensures { Chosen result pairs.new pairs.old }
 {
     let count = pairs.len();
     let mut frontier = Frontier::new(pairs);
@@ -51,8 +49,7 @@ pub(crate) fn choose_often(
     places: &mut [Pair],
     times: u32,
 ) -> Result<usize, Refusal>
-    ensures smallest { MatchResult result (λ n. SmallestCover NoLarger (take n places.new) pairs.now) (λ why. number why ≡ 11) }
-    ensures within { IfOk result (λ n. n ≤ length places.new) }
+    ensures { MatchResult result (λ n. Chosen n places.new pairs.now) (λ why. number why ≡ 11) }
 {
     let mut count = choose(pairs, places)?;
     for _ in 1..times {
