@@ -1,6 +1,6 @@
 use Rattle.std.proofs.Common.{arith}
 use Rattle.std.proofs.lemmas.Bool.Decides.{not_from_Decides}
-use Rattle.frontier.proofs.Turns.{compacting_from, compacting_leaves, compacting_stays}
+use Rattle.frontier.proofs.Turns.{compacting_leaves, compacting_stays}
 use Rattle.frontier.proofs.passes.compact.Goals as goal
 use Rattle.frontier.proofs.passes.compact.Goals.{then-not-covers, else-not-covers}
 
@@ -14,7 +14,3 @@ loop-i-preserved g c =
           (compacting_leaves g.T.Covers.covers c.args.x.now c.index-kept-i.result c.loop-i.invariant
           (omega arith) c.index-kept-i.is (c.covers.ensures.0 w.if-not-covers.false))
     ]
-
-pub loop-i-init : goal.loop-i-init
-loop-i-init g c =
-    compacting_from g.T.Covers.covers c.args.x.now c.args.kept.now c.uncovered-stay.result (omega (arith, c.uncovered-stay.ensures.fewer)) c.uncovered-stay.ensures.stay
