@@ -47,8 +47,8 @@ impl BreakState {
     pub fn new(limit: u16, length: u16, kind: Pause) -> BreakState
         ensures { break_row result ≡ given_break limit length kind }
     {
-        let limit = limit.max(1).min(MOST);
-        let length = length.max(1).min(MOST);
+        let limit = limit.clamp(1, MOST);
+        let length = length.clamp(1, MOST);
         BreakState {
             limit,
             length,

@@ -1,8 +1,7 @@
 // What the cycle allows, and how it goes on.
-ghost use Rattle.std.specs.Prelude.{◌≡◌, [], ◌∷◌, Decides};
-ghost use Rattle.books.specs.DutyCycle.{CycleSound, NoWorseCycle, cycle_row, given_cycle, opened_cycle, cycle_names, next_cycle, cycle_after, fits_cycle, remade_cycle, same_cycle};
+ghost use Rattle.std.specs.Prelude.{◌≡◌, [], ◌∷◌};
+ghost use Rattle.books.specs.DutyCycle.{CycleSound, NoWorseCycle, cycle_row, given_cycle, opened_cycle, cycle_names, next_cycle, cycle_after, fits_cycle, remade_cycle};
 ghost use Rattle.books.specs.Sets.{Lawful, cycle_rules};
-ghost use Rattle.std.specs.Cmp.Rules.{comparing};
 ghost use Rattle.std.proofs.Common.{rules};
 ghost use Rattle.books.specs.CycleLaws.{cycle_keeps, cycle_relieves, cycle_endures, remade_sound, cycle_restores};
 ghost use Rattle.books.specs.Cycles.{cycle_tied};
@@ -10,7 +9,7 @@ ghost use Rattle.books.specs.Tied.{tied_judged};
 ghost use Rattle.rules.specs.LayersLemmas.{moved_same};
 
 use super::CycleState;
-use super::counts::{count_on, counts_fit, no_more, same, total};
+use super::counts::{count_on, counts_fit, no_more, total};
 use duty::{Duty, HORIZON, next_run};
 use rules::book::{Figures, RuleBook};
 use rules::breach::Violation;
@@ -23,7 +22,7 @@ const MOST_LIMIT: u16 = 768;
 const MOST_RESTART: u16 = 672;
 
 // The figures of a cycle as they stand, in range or not.
-#[derive(Clone, Copy, Debug)]
+#[derive(Clone, Copy, PartialEq, Eq, Debug)]
 pub struct CycleRow {
     pub days: u8,
     pub limit: u16,
@@ -32,29 +31,8 @@ pub struct CycleRow {
     pub rest: u16,
 }
 
-// Written out, since a derived `==` says nothing of an array.
-impl PartialEq for CycleRow {
-    ghost eq = { same_cycle };
-
-    ghost laws = { Prim.search (comparing, rules) depth 9 };
-
-    fn eq(&self, other: &CycleRow) -> bool
-        ensures value { result ≡ same_cycle self.now other.now }
-        ensures same { Decides result (self.now ≡ other.now) }
-    {
-        self.days == other.days
-            && self.limit == other.limit
-            && self.restart == other.restart
-            && same(&self.duty, &other.duty)
-            && self.rest == other.rest
-    }
-}
-
-impl Eq for CycleRow {
-    ghost laws = { Prim.search (comparing, rules) depth 9 };
-}
-
 // Whether the row is a state's.
+#[tactic(auto, using(crate::specs::Eights::decides_within))]
 fn fits(row: &CycleRow) -> bool
     ensures { result ≡ fits_cycle row.now }
 {
@@ -89,10 +67,10 @@ impl CycleState {
     pub fn new(days: u8, limit: u16, restart: u16) -> CycleState
         ensures { cycle_row result ≡ given_cycle days limit restart }
     {
-        let restart = restart.max(1).min(MOST_RESTART);
+        let restart = restart.clamp(1, MOST_RESTART);
         CycleState {
-            days: days.max(1).min(MOST_DAYS),
-            limit: limit.max(1).min(MOST_LIMIT),
+            days: days.clamp(1, MOST_DAYS),
+            limit: limit.clamp(1, MOST_LIMIT),
             restart,
             duty: [0; 8],
             rest: restart,

@@ -1,29 +1,20 @@
 // The counts of a cycle, one to a day: the day of the next quarter, and the seven days before it.
-ghost use Rattle.std.specs.Prelude.{◌≡◌, ◌&&◌, if◌then◌else◌, Decides, nat_lt};
-ghost use Rattle.books.specs.DayCounts.{NoMore, none_on, total_on, aged, turned, gone_on, next_counts, all_within};
+ghost use Rattle.std.specs.Prelude.{◌≡◌, ℕ, ◌-◌, ◌<◌, ◌≤◌, ◌&&◌, if◌then◌else◌, Decides, nat_lt, slice_index};
+ghost use Rattle.books.specs.DayCounts.{NoMore, none_on, total_on, turned, gone_on, next_counts};
 
 use duty::ends_day;
 
 // The quarters of a day, as a count.
 const DAY: u8 = 96;
 
-// Whether the counts are the same, day by day.
-pub(super) fn same(counts: &[u8; 8], others: &[u8; 8]) -> bool
-    ensures { Decides result (counts.now ≡ others.now) }
-{
-    *counts == *others
-}
-
 // Whether no count is larger than the other's of the same day.
 pub(super) fn no_more(counts: &[u8; 8], others: &[u8; 8]) -> bool
     ensures { Decides result (NoMore counts.now others.now) }
 {
-    for i in 0..8 {
-        if counts[i] > others[i] {
-            return false;
-        }
-    }
-    true
+    counts
+        .iter()
+        .zip(others)
+        .all(|(count, other)| count <= other)
 }
 
 // The most that can be on duty `back` days back: a whole day where it is counted and the rest is short.
@@ -39,60 +30,49 @@ fn most(back: usize, days: u8, short: bool) -> u8
 
 // Whether each count is one that a state can have.
 pub(super) fn counts_fit(counts: &[u8; 8], days: u8, short: bool) -> bool
-    ensures { result ≡ all_within (λ i. (if nat_lt i days && short then 96 else 0)) counts.now }
+    ensures { Decides result ((i : ℕ) → slice_index counts.now i ≤ (if nat_lt i days && short then 96 else 0)) }
 {
-    for i in 0..8 {
-        if counts[i] > most(i, days, short) {
-            return false;
-        }
-    }
-    true
+    counts
+        .iter()
+        .enumerate()
+        .all(|(back, count)| *count <= most(back, days, short))
 }
 
 // The quarters on duty of all the days.
 pub(super) fn total(counts: &[u8; 8]) -> u16
     ensures { result ≡ total_on counts.now }
 {
-    u16::from(counts[0])
-        + u16::from(counts[1])
-        + u16::from(counts[2])
-        + u16::from(counts[3])
-        + u16::from(counts[4])
-        + u16::from(counts[5])
-        + u16::from(counts[6])
-        + u16::from(counts[7])
+    counts.iter().map(|count| u16::from(*count)).sum()
 }
 
-// The count of a day that is now `back` days back: 0 where that day is no longer counted.
-fn age(count: u8, back: u8, days: u8) -> u8
-    ensures { result ≡ aged days back count }
+// The count of a day that is now `back` days back, from the counts of the day before: 0 for today, and for a day
+// that is no longer counted.
+fn a_day_on(counts: &[u8; 8], back: usize, days: u8) -> u8
+    requires { back < 8 }
+    ensures { result ≡ (if nat_lt 0 back && nat_lt back days then slice_index counts.now (back - 1) else 0) }
 {
-    if back < days { count } else { 0 }
+    if 0 < back && back < usize::from(days) {
+        counts[back - 1]
+    } else {
+        0
+    }
 }
 
 // The counts that the next day begins with.
 fn turn(counts: &[u8; 8], today: u8, days: u8) -> [u8; 8]
     ensures { result ≡ turned days today counts.now }
 {
-    [
-        0,
-        age(today, 1, days),
-        age(counts[1], 2, days),
-        age(counts[2], 3, days),
-        age(counts[3], 4, days),
-        age(counts[4], 5, days),
-        age(counts[5], 6, days),
-        age(counts[6], 7, days),
-    ]
+    let counts = renew(counts, today);
+    std::array::from_fn(|back| a_day_on(&counts, back, days))
 }
 
 // The counts within a day, with a new count for today.
 fn renew(counts: &[u8; 8], today: u8) -> [u8; 8]
     ensures { result ≡ gone_on today counts.now }
 {
-    [
-        today, counts[1], counts[2], counts[3], counts[4], counts[5], counts[6], counts[7],
-    ]
+    let mut renewed = *counts;
+    renewed[0] = today;
+    renewed
 }
 
 // The counts after a quarter; a rest that is full leaves none.
