@@ -8,9 +8,10 @@ use Rattle.duty.specs.Duties.{driving}
 use Rattle.duty.specs.Logs.{at}
 use Rattle.duty.proofs.Runs.{run_at}
 use Rattle.rules.specs.Layers.{moved}
-use Rattle.books.specs.declared.driving_break.book.BreakRow.{BreakRow}
+use Rattle.books.specs.declared.driving_break.row.BreakRow.{BreakRow}
 use Rattle.books.specs.declared.pause.Pause.{Pause}
-use Rattle.books.specs.DrivingBreak.{BreakSound, opened_break, given_break, break_names, next_break, break_after, fits_break, remade_break}
+use Rattle.books.specs.Bounds.{BreakSound}
+use Rattle.books.specs.DrivingBreak.{opened_break, given_break, break_names, next_break, break_after, fits_break, remade_break}
 use Rattle.books.specs.Pauses.{pauses}
 use Rattle.books.specs.Sets.{placed, break_rules}
 use Rattle.books.specs.Broken.{FirstBroken}
@@ -31,7 +32,9 @@ fits_sound s e =
     let two = and_parts _ _ three.0 in
     let one = and_parts _ _ two.0 in (
       (leb-true _ _ one.0, leb-true _ _ one.1, leb-true _ _ two.1, leb-true _ _ three.1),
-      (leb-true _ _ four.1, leb-true _ _ five.1, full_none _ _ _ six.1),
+      leb-true _ _ four.1,
+      leb-true _ _ five.1,
+      full_none _ _ _ six.1,
     )
 
 pub remade_sound : (s : BreakRow) → BreakSound (remade_break s)

@@ -9,12 +9,13 @@ use Rattle.duty.specs.Runs.{next_run}
 use Rattle.rules.specs.declared.breach.Violation.{Violation}
 use Rattle.rules.specs.Layers.{moved}
 use Rattle.rules.specs.LayersLemmas.{some-none, moved_either}
-use Rattle.books.specs.declared.duty_cycle.book.CycleRow.{CycleRow}
+use Rattle.books.specs.declared.duty_cycle.row.CycleRow.{CycleRow}
 use Rattle.books.specs.DayCounts.{NoMore, none_on, total_on, next_counts}
-use Rattle.books.specs.DutyCycle.{CycleSound, NoWorseCycle, given_cycle, cycle_names, next_cycle, cycle_after, fits_cycle, remade_cycle}
+use Rattle.books.specs.Bounds.{CycleSound}
+use Rattle.books.specs.DutyCycle.{NoWorseCycle, given_cycle, cycle_names, next_cycle, cycle_after, fits_cycle, remade_cycle}
 use Rattle.books.specs.Eights.{none_least, total_more, next_more, counts_within, decides_within}
 
-pub run_le : (full run : ℕ) (unbroken : Bool) → next_run full run unbroken ≤ full
+run_le : (full run : ℕ) (unbroken : Bool) → next_run full run unbroken ≤ full
 run_le full run unbroken = elim unbroken as (λ b. next_run full run b ≤ full) [ true ↦ omega arith | false ↦ omega arith ]
 
 run_more : (full run run' : ℕ) (unbroken : Bool) → run ≤ run' → next_run full run unbroken ≤ next_run full run' unbroken
@@ -75,11 +76,17 @@ cycle_relieves s q sound none =
       rest = omega arith;
     })
 
+pub next_sound : (s : CycleRow) (q : ℕ) (x : Duty) → CycleSound s → CycleSound (next_cycle s q x)
+next_sound s q x sound =
+    let le = run_le s.restart s.rest (resting x) in (
+      sound.0,
+      (sound.1.0, sound.1.1, le),
+      counts_within s.days s.restart s.rest _ q s.duty _ (working x) sound.0.0 le sound.2 refl,
+    )
+
 pub cycle_endures : (s : CycleRow) (q : ℕ) (x : Duty) → CycleSound s → CycleSound (cycle_after s q x)
 cycle_endures s q x sound =
-    moved_either CycleSound (cycle_names s q x) (next_cycle s q x) s
-    (sound.0, (sound.1.0, sound.1.1, run_le s.restart s.rest (resting x)), counts_within s.days s.restart s.rest _ q s.duty _ (working x) sound.0.0 (run_le s.restart s.rest (resting x)) sound.2 refl)
-    sound
+    moved_either CycleSound (cycle_names s q x) (next_cycle s q x) s (next_sound s q x sound) sound
 
 pub fits_sound : (s : CycleRow) → fits_cycle s ≡ true → CycleSound s
 fits_sound s e =

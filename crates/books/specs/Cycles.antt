@@ -9,7 +9,7 @@ use Rattle.duty.specs.Logs.{at, count}
 use Rattle.duty.proofs.Counts.{count_more_one}
 use Rattle.duty.proofs.Runs.{run_at, since_at, since-le, latest-since}
 use Rattle.rules.specs.Layers.{moved}
-use Rattle.books.specs.declared.duty_cycle.book.CycleRow.{CycleRow}
+use Rattle.books.specs.declared.duty_cycle.row.CycleRow.{CycleRow}
 use Rattle.books.specs.DayCounts.{total_on, next_counts}
 use Rattle.books.specs.DutyCycle.{opened_cycle, cycle_names, next_cycle, cycle_after}
 use Rattle.books.specs.Sentences.{Keeps, duty_cycle, days_from}

@@ -11,16 +11,12 @@ use Rattle.duty.specs.Runs.{next_run}
 use Rattle.rules.specs.declared.breach.Violation.{Violation}
 use Rattle.rules.specs.Layers.{moved}
 use Rattle.books.specs.declared.driving_break.BreakState.{BreakState}
-use Rattle.books.specs.declared.driving_break.book.BreakRow.{BreakRow}
+use Rattle.books.specs.declared.driving_break.row.BreakRow.{BreakRow}
 use Rattle.books.specs.declared.pause.Pause.{Pause}
-use Rattle.books.specs.Bounds.{BreakFigures, BreakBounds}
 use Rattle.books.specs.Pauses.{pauses}
 
 abbrev pub break_row : BreakState → BreakRow
-break_row b = record { limit = b.limit; length = b.length; kind = b.kind; driven = b.driven; pause = b.pause }
-
-abbrev pub BreakSound : BreakRow → Type 0
-BreakSound s = BreakFigures s.limit s.length × BreakBounds s.limit s.length s.driven s.pause
+break_row b = b.row
 
 pub record NoWorseBreak (a b : BreakRow) : Type 0 where
   pub limit : a.limit ≡ b.limit

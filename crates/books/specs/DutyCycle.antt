@@ -1,6 +1,5 @@
 -- The duty cycle as a state machine. Assumes nothing.
 --   cycle_row b        the figures of a state
---   CycleSound s       the figures that a state can have
 --   NoWorseCycle a b   the same figures, no more on duty on any day, and no shorter a rest
 --   cycle_names        rule 6 where the quarters on duty have reached the limit
 --   next_cycle s q x   one quarter on: a rest that gets full ends the counts
@@ -9,8 +8,6 @@
 --   given_cycle        the same, each figure taken as the nearest in its range
 --   remade_cycle s     the row s where it is a state's, else the state before quarter 0
 use Rattle.std.specs.Prelude.{◌≡◌, ℕ, ◌≤◌, min, max, Bool, cond, ◌&&◌, Some, None, Option, ◌==◌, nat_le}
-use Rattle.std.specs.Ordering.{on, eq_of_both}
-use Rattle.std.specs.Cmp.Lexicographic.{pointwise}
 use Rattle.duty.specs.declared.Duty.{Duty}
 use Rattle.duty.specs.declared.Duty.TheVariants.{Rest, Work, Drive}
 use Rattle.duty.specs.Duties.{resting, working}
@@ -18,15 +15,12 @@ use Rattle.duty.specs.Runs.{next_run}
 use Rattle.rules.specs.declared.breach.Violation.{Violation}
 use Rattle.rules.specs.Layers.{moved}
 use Rattle.books.specs.declared.duty_cycle.CycleState.{CycleState}
-use Rattle.books.specs.declared.duty_cycle.book.CycleRow.{CycleRow}
-use Rattle.books.specs.Bounds.{CycleFigures, CycleRest, CycleCounts, most_on}
+use Rattle.books.specs.declared.duty_cycle.row.CycleRow.{CycleRow}
+use Rattle.books.specs.Bounds.{most_on}
 use Rattle.books.specs.DayCounts.{NoMore, none_on, total_on, next_counts, all_within}
 
 abbrev pub cycle_row : CycleState → CycleRow
-cycle_row b = record { days = b.days; limit = b.limit; restart = b.restart; duty = b.duty; rest = b.rest }
-
-abbrev pub CycleSound : CycleRow → Type 0
-CycleSound s = CycleFigures s.days s.limit × CycleRest s.restart s.rest × CycleCounts s.days s.restart s.duty s.rest
+cycle_row b = b.row
 
 pub record NoWorseCycle (a b : CycleRow) : Type 0 where
   pub days : a.days ≡ b.days
@@ -57,14 +51,6 @@ next_cycle s q x = record {
 
 abbrev pub cycle_after : CycleRow → ℕ → Duty → CycleRow
 cycle_after s q x = moved (cycle_names s q x) (next_cycle s q x) s
-
--- whether two rows are the same, figure by figure
-abbrev pub same_cycle : CycleRow → CycleRow → Bool
-same_cycle =
-    eq_of_both (on (λ r. r.days) ◌==◌)
-    (eq_of_both (on (λ r. r.limit) ◌==◌)
-    (eq_of_both (on (λ r. r.restart) ◌==◌)
-    (eq_of_both (on (λ r. r.duty) (pointwise ◌==◌)) (on (λ r. r.rest) ◌==◌))))
 
 -- whether a row is a state's
 abbrev pub fits_cycle : CycleRow → Bool

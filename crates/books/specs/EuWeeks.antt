@@ -1,6 +1,5 @@
 -- The EU weeks as a state machine over the driving of this week and of last week. Assumes nothing.
 --   WeeksNoWorse   no count is larger
---   WeeksSound     the figures that a state can have
 --   opened_weeks   nothing driven yet
 --   next_weeks     one quarter on: with a week's last quarter this week becomes last week, and a new one is begun
 --   weeks_names    rule 7 where 224 quarters of this week were driving, rule 8 where 360 of both were
@@ -14,17 +13,13 @@ use Rattle.rules.specs.declared.breach.Violation.{Violation}
 use Rattle.rules.specs.Layers.{moved}
 use Rattle.books.specs.declared.weeks.WeeksState.{WeeksState}
 use Rattle.books.specs.declared.weeks.row.WeeksRow.{WeeksRow}
-use Rattle.books.specs.Bounds.{WeeksBounds}
 
 pub record WeeksNoWorse (a b : WeeksRow) : Type 0 where
   pub this : a.this ≤ b.this
   pub last : a.last ≤ b.last
 
 abbrev pub weeks_row : WeeksState → WeeksRow
-weeks_row b = record { this = b.this; last = b.last }
-
-abbrev pub WeeksSound : WeeksRow → Type 0
-WeeksSound s = WeeksBounds s.this s.last
+weeks_row b = b.row
 
 abbrev pub opened_weeks : WeeksRow
 opened_weeks = record { this = 0; last = 0 }

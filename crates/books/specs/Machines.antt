@@ -7,8 +7,8 @@ use Rattle.duty.specs.declared.Duty.{Duty}
 use Rattle.rules.specs.declared.breach.Violation.{Violation}
 use Rattle.rules.specs.declared.layered.Layered.{Layered}
 use Rattle.rules.specs.Piling.{both_name, both_move}
-use Rattle.books.specs.declared.driving_break.book.BreakRow.{BreakRow}
-use Rattle.books.specs.declared.duty_cycle.book.CycleRow.{CycleRow}
+use Rattle.books.specs.declared.driving_break.row.BreakRow.{BreakRow}
+use Rattle.books.specs.declared.duty_cycle.row.CycleRow.{CycleRow}
 use Rattle.books.specs.declared.period.PeriodRow.{PeriodRow}
 use Rattle.books.specs.declared.weekly_rest.row.WeeklyRestRow.{WeeklyRestRow}
 use Rattle.books.specs.declared.weeks.row.WeeksRow.{WeeksRow}

@@ -2,9 +2,9 @@
 use Rattle.std.specs.Prelude.{ℕ}
 use Rattle.rules.specs.declared.layered.Layered.{Layered}
 use Rattle.books.specs.declared.driving_break.BreakState.{BreakState}
-use Rattle.books.specs.declared.driving_break.book.BreakRow.{BreakRow}
+use Rattle.books.specs.declared.driving_break.row.BreakRow.{BreakRow}
 use Rattle.books.specs.declared.duty_cycle.CycleState.{CycleState}
-use Rattle.books.specs.declared.duty_cycle.book.CycleRow.{CycleRow}
+use Rattle.books.specs.declared.duty_cycle.row.CycleRow.{CycleRow}
 use Rattle.books.specs.declared.eu_day.EuDay.{EuDay}
 use Rattle.books.specs.declared.pause.Pause.TheVariants as kind
 use Rattle.books.specs.declared.period.PeriodRow.{PeriodRow}

@@ -1,23 +1,19 @@
 -- The US shift as a state machine. Assumes nothing.
 --   shift_names     rule 1 where 56 quarters have gone by, rule 2 where 44 of them were driving
-use Rattle.std.specs.Prelude.{ℕ, Bool, cond, ◌&&◌, ◌||◌, Some, None, Option, ◌==◌, nat_le, nat_lt}
+use Rattle.std.specs.Prelude.{ℕ, Bool, cond, Some, None, Option, nat_le}
 use Rattle.duty.specs.declared.Duty.{Duty}
 use Rattle.duty.specs.declared.Duty.TheVariants.{Rest, Work, Drive}
 use Rattle.rules.specs.declared.breach.Violation.{Violation}
 use Rattle.rules.specs.Layers.{moved}
 use Rattle.books.specs.declared.period.PeriodRow.{PeriodRow}
 use Rattle.books.specs.declared.us_shift.UsShift.{UsShift}
-use Rattle.books.specs.Bounds.{ShiftBounds}
-use Rattle.books.specs.Period.{next_period}
+use Rattle.books.specs.Period.{opened_period, next_period, fits_period}
 
 abbrev pub shift_row : UsShift → PeriodRow
-shift_row b = record { elapsed = b.elapsed; driven = b.driven; rest = b.rest }
-
-abbrev pub ShiftSound : PeriodRow → Type 0
-ShiftSound s = ShiftBounds s.elapsed s.driven s.rest
+shift_row b = b.row
 
 abbrev pub opened_shift : PeriodRow
-opened_shift = record { elapsed = 0; driven = 0; rest = 40 }
+opened_shift = opened_period 40
 
 abbrev pub shift_names : PeriodRow → ℕ → Duty → Option Violation
 shift_names s q Rest = None
@@ -30,7 +26,7 @@ shift_after s q x = moved (shift_names s q x) (next_period 40 56 s x) s
 
 -- whether a row is a state's
 abbrev pub fits_shift : PeriodRow → Bool
-fits_shift s = nat_le s.elapsed 56 && nat_le s.driven 44 && nat_le s.rest 40 && (nat_lt s.rest 40 || (s.elapsed == 0 && s.driven == 0))
+fits_shift s = fits_period 56 44 40 s
 
 abbrev pub remade_shift : PeriodRow → PeriodRow
 remade_shift s = cond (fits_shift s) s opened_shift

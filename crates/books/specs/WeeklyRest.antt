@@ -1,6 +1,5 @@
 -- The EU weekly rest as a state machine over the quarters since the latest full rest and the rest run. Assumes nothing.
 --   RestNoWorse          the count is not larger, and the run is not shorter
---   WeeklyRestSound      the figures that a state can have
 --   opened_weekly_rest   a full rest just taken
 --   next_weekly_rest     one quarter on: a rest that gets full begins the count anew, which is held at 576
 --   weekly_rest_names    rule 9 where 576 quarters have gone by
@@ -14,17 +13,13 @@ use Rattle.rules.specs.declared.breach.Violation.{Violation}
 use Rattle.rules.specs.Layers.{moved}
 use Rattle.books.specs.declared.weekly_rest.WeeklyRestState.{WeeklyRestState}
 use Rattle.books.specs.declared.weekly_rest.row.WeeklyRestRow.{WeeklyRestRow}
-use Rattle.books.specs.Bounds.{WeeklyRestBounds}
 
 pub record RestNoWorse (a b : WeeklyRestRow) : Type 0 where
   pub elapsed : a.elapsed ≤ b.elapsed
   pub rest : b.rest ≤ a.rest
 
 abbrev pub weekly_rest_row : WeeklyRestState → WeeklyRestRow
-weekly_rest_row b = record { elapsed = b.elapsed; rest = b.rest }
-
-abbrev pub WeeklyRestSound : WeeklyRestRow → Type 0
-WeeklyRestSound s = WeeklyRestBounds s.elapsed s.rest
+weekly_rest_row b = b.row
 
 abbrev pub opened_weekly_rest : WeeklyRestRow
 opened_weekly_rest = record { elapsed = 0; rest = 180 }

@@ -1,22 +1,18 @@
 // The break from driving: how much may be driven without a pause.
-ghost use Rattle.books.specs.Bounds.{BreakFigures, BreakBounds};
+ghost use Rattle.books.specs.Bounds.{BreakSound};
 
-use crate::pause::Pause;
+use row::BreakRow;
 use rules::layered::Layered;
 
-// The limit, the length and the kind of the pause; the driving since the last pause, and the pause run.
 #[derive(Clone, Copy)]
 pub struct BreakState {
-    limit: u16,
-    length: u16,
-    kind: Pause,
-    driven: u16,
-    pause: u16,
-    ghost given: { BreakFigures limit length },
-    ghost bounded: { BreakBounds limit length driven pause },
+    row: BreakRow,
+    ghost bounded: { BreakSound row },
 }
 
 // A break over any book.
 pub type Break<B> = Layered<BreakState, B>;
 
+// The book's functions, beside the struct that they see the fields of.
 pub mod book;
+pub mod row;

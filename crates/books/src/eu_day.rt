@@ -1,12 +1,12 @@
 // The EU day: on duty only within 52 quarters after a rest of 44, with at most 36 quarters of driving.
-ghost use Rattle.books.specs.Bounds.{DayBounds};
+ghost use Rattle.books.specs.Bounds.{DaySound};
+
+use crate::period::PeriodRow;
 
 #[derive(Clone, Copy)]
 pub struct EuDay {
-    elapsed: u16,
-    driven: u16,
-    rest: u16,
-    ghost bounded: { DayBounds elapsed driven rest },
+    row: PeriodRow,
+    ghost bounded: { DaySound row },
 }
 
 // The book's functions, beside the struct that they see the fields of.

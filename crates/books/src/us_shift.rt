@@ -1,12 +1,12 @@
 // The US shift: at most 44 quarters of driving, all within 56 quarters after a rest of 40.
-ghost use Rattle.books.specs.Bounds.{ShiftBounds};
+ghost use Rattle.books.specs.Bounds.{ShiftSound};
+
+use crate::period::PeriodRow;
 
 #[derive(Clone, Copy)]
 pub struct UsShift {
-    elapsed: u16,
-    driven: u16,
-    rest: u16,
-    ghost bounded: { ShiftBounds elapsed driven rest },
+    row: PeriodRow,
+    ghost bounded: { ShiftSound row },
 }
 
 // The book's functions, beside the struct that they see the fields of.

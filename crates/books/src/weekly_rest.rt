@@ -1,14 +1,13 @@
 // The EU weekly rest: on duty only within 576 quarters after a rest of 180.
-ghost use Rattle.books.specs.Bounds.{WeeklyRestBounds};
+ghost use Rattle.books.specs.Bounds.{WeeklyRestSound};
 
+use row::WeeklyRestRow;
 use rules::layered::Layered;
 
-// The quarters since the last full rest, and the rest run.
 #[derive(Clone, Copy)]
 pub struct WeeklyRestState {
-    elapsed: u16,
-    rest: u16,
-    ghost bounded: { WeeklyRestBounds elapsed rest },
+    row: WeeklyRestRow,
+    ghost bounded: { WeeklyRestSound row },
 }
 
 // The weekly rest over another book.

@@ -1,14 +1,13 @@
 // The EU weeks: at most 224 quarters of driving in a week, and 360 in two weeks in a row.
-ghost use Rattle.books.specs.Bounds.{WeeksBounds};
+ghost use Rattle.books.specs.Bounds.{WeeksSound};
 
+use row::WeeksRow;
 use rules::layered::Layered;
 
-// The driving of this week and of last week.
 #[derive(Clone, Copy)]
 pub struct WeeksState {
-    this: u16,
-    last: u16,
-    ghost bounded: { WeeksBounds this last },
+    row: WeeksRow,
+    ghost bounded: { WeeksSound row },
 }
 
 // The weeks over another book.

@@ -1,6 +1,7 @@
 // What the break allows, and how it goes on.
-ghost use Rattle.std.specs.Prelude.{◌≡◌, [], ◌∷◌, None};
-ghost use Rattle.books.specs.DrivingBreak.{BreakSound, NoWorseBreak, break_row, given_break, opened_break, break_names, next_break, break_after, remade_break};
+ghost use Rattle.std.specs.Prelude.{◌≡◌, [], ◌∷◌};
+ghost use Rattle.books.specs.Bounds.{BreakSound};
+ghost use Rattle.books.specs.DrivingBreak.{break_row, given_break, opened_break, break_names, next_break, break_after, remade_break};
 ghost use Rattle.books.specs.Sets.{Lawful, break_rules};
 ghost use Rattle.std.proofs.Common.{rules};
 ghost use Rattle.books.specs.Breaks.{break_tied, remade_sound};
@@ -8,80 +9,26 @@ ghost use Rattle.books.specs.Tied.{tied_judged};
 ghost use Rattle.rules.specs.LayersLemmas.{moved_same};
 
 use super::BreakState;
+use super::row::{BreakRow, MOST};
 use crate::pause::Pause;
-use duty::{Duty, next_run};
+use duty::Duty;
 use rules::book::{Figures, RuleBook};
 use rules::breach::Violation;
-
-// The largest limit and length that can be given.
-const MOST: u16 = 96;
-
-// The figures of a break as they stand, in range or not.
-#[derive(Clone, Copy, PartialEq, Eq, Debug)]
-pub struct BreakRow {
-    pub limit: u16,
-    pub length: u16,
-    pub kind: Pause,
-    pub driven: u16,
-    pub pause: u16,
-}
-
-impl Figures for BreakRow {
-    ghost better = { NoWorseBreak };
-
-    ghost reflexive = { Prim.search rules };
-
-    ghost transitive = { Prim.search rules };
-
-    fn dominates(&self, other: &Self) -> bool {
-        self.limit == other.limit
-            && self.length == other.length
-            && self.kind == other.kind
-            && self.driven <= other.driven
-            && self.pause >= other.pause
-    }
-}
 
 impl BreakState {
     // The state before quarter 0; a figure outside 1 to 96 is taken as the nearest end.
     pub fn new(limit: u16, length: u16, kind: Pause) -> BreakState
         ensures { break_row result ≡ given_break limit length kind }
     {
-        let limit = limit.clamp(1, MOST);
         let length = length.clamp(1, MOST);
         BreakState {
-            limit,
-            length,
-            kind,
-            driven: 0,
-            pause: length,
-        }
-    }
-
-    // One quarter on, with a status that is allowed.
-    fn next(self, duty: Duty) -> BreakState
-        requires { break_names (break_row self) 0 duty ≡ None }
-        ensures { break_row result ≡ next_break (break_row self) duty }
-    {
-        let BreakState {
-            limit,
-            length,
-            kind,
-            driven,
-            pause,
-        } = self;
-        let pause = next_run(pause, length, kind.takes(duty));
-        let driven = if pause == length {
-            0
-        } else {
-            driven + u16::from(duty.is_driving())
-        };
-        BreakState {
-            limit,
-            length,
-            kind,
-            driven,
-            pause,
+            row: BreakRow {
+                limit: limit.clamp(1, MOST),
+                length,
+                kind,
+                driven: 0,
+                pause: length,
+            },
         }
     }
 }
@@ -151,11 +98,11 @@ impl RuleBook for BreakState {
     }
 
     fn opening(&self) -> Self {
-        BreakState::new(self.limit, self.length, self.kind)
+        BreakState::new(self.row.limit, self.row.length, self.row.kind)
     }
 
     fn verdict(&self, quarter: usize, duty: Duty) -> Option<Violation> {
-        if duty.is_driving() && self.driven >= self.limit {
+        if duty.is_driving() && self.row.driven >= self.row.limit {
             Some(Violation {
                 rule: Self::LOWEST,
                 layer: 1,
@@ -167,45 +114,21 @@ impl RuleBook for BreakState {
 
     fn step(&mut self, quarter: usize, duty: Duty) {
         if self.verdict(quarter, duty).is_none() {
-            *self = self.next(duty);
+            *self = BreakState {
+                row: self.row.next(duty),
+            };
         }
     }
 
     fn row(&self) -> BreakRow {
-        BreakRow {
-            limit: self.limit,
-            length: self.length,
-            kind: self.kind,
-            driven: self.driven,
-            pause: self.pause,
-        }
+        self.row
     }
 
     fn remake(row: &BreakRow) -> Self {
-        let BreakRow {
-            limit,
-            length,
-            kind,
-            driven,
-            pause,
-        } = *row;
-        if 1 <= limit
-            && limit <= MOST
-            && 1 <= length
-            && length <= MOST
-            && driven <= limit
-            && pause <= length
-            && (pause < length || driven == 0)
-        {
-            BreakState {
-                limit,
-                length,
-                kind,
-                driven,
-                pause,
-            }
+        if row.fits() {
+            BreakState { row: *row }
         } else {
-            BreakState::new(limit, length, kind)
+            BreakState::new(row.limit, row.length, row.kind)
         }
     }
 }

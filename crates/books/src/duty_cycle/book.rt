@@ -1,6 +1,7 @@
 // What the cycle allows, and how it goes on.
 ghost use Rattle.std.specs.Prelude.{◌≡◌, [], ◌∷◌};
-ghost use Rattle.books.specs.DutyCycle.{CycleSound, NoWorseCycle, cycle_row, given_cycle, opened_cycle, cycle_names, next_cycle, cycle_after, fits_cycle, remade_cycle};
+ghost use Rattle.books.specs.Bounds.{CycleSound};
+ghost use Rattle.books.specs.DutyCycle.{cycle_row, given_cycle, opened_cycle, cycle_names, next_cycle, cycle_after, remade_cycle};
 ghost use Rattle.books.specs.Sets.{Lawful, cycle_rules};
 ghost use Rattle.std.proofs.Common.{rules};
 ghost use Rattle.books.specs.CycleLaws.{cycle_keeps, cycle_relieves, cycle_endures, remade_sound, cycle_restores};
@@ -9,58 +10,11 @@ ghost use Rattle.books.specs.Tied.{tied_judged};
 ghost use Rattle.rules.specs.LayersLemmas.{moved_same};
 
 use super::CycleState;
-use super::counts::{count_on, counts_fit, no_more, total};
-use duty::{Duty, HORIZON, next_run};
+use super::counts::total;
+use super::row::{CycleRow, MOST_DAYS, MOST_LIMIT, MOST_RESTART};
+use duty::{Duty, HORIZON};
 use rules::book::{Figures, RuleBook};
 use rules::breach::Violation;
-
-// The largest figures that can be given: eight days, all of them on duty, and a week of rest.
-const MOST_DAYS: u8 = 8;
-
-const MOST_LIMIT: u16 = 768;
-
-const MOST_RESTART: u16 = 672;
-
-// The figures of a cycle as they stand, in range or not.
-#[derive(Clone, Copy, PartialEq, Eq, Debug)]
-pub struct CycleRow {
-    pub days: u8,
-    pub limit: u16,
-    pub restart: u16,
-    pub duty: [u8; 8],
-    pub rest: u16,
-}
-
-// Whether the row is a state's.
-#[tactic(auto, using(crate::specs::Eights::decides_within))]
-fn fits(row: &CycleRow) -> bool
-    ensures { result ≡ fits_cycle row.now }
-{
-    1 <= row.days
-        && row.days <= MOST_DAYS
-        && 1 <= row.limit
-        && row.limit <= MOST_LIMIT
-        && 1 <= row.restart
-        && row.restart <= MOST_RESTART
-        && row.rest <= row.restart
-        && counts_fit(&row.duty, row.days, row.rest < row.restart)
-}
-
-impl Figures for CycleRow {
-    ghost better = { NoWorseCycle };
-
-    ghost reflexive = { Prim.search rules };
-
-    ghost transitive = { Prim.search rules };
-
-    fn dominates(&self, other: &Self) -> bool {
-        self.days == other.days
-            && self.limit == other.limit
-            && self.restart == other.restart
-            && no_more(&self.duty, &other.duty)
-            && self.rest >= other.rest
-    }
-}
 
 impl CycleState {
     // The state before quarter 0; a figure outside its range is taken as the nearest end.
@@ -69,26 +23,13 @@ impl CycleState {
     {
         let restart = restart.clamp(1, MOST_RESTART);
         CycleState {
-            days: days.clamp(1, MOST_DAYS),
-            limit: limit.clamp(1, MOST_LIMIT),
-            restart,
-            duty: [0; 8],
-            rest: restart,
-        }
-    }
-
-    // One quarter on, with a status that is allowed.
-    fn next(self, quarter: usize, duty: Duty) -> CycleState
-        ensures { cycle_row result ≡ next_cycle (cycle_row self) quarter duty }
-    {
-        let rest = next_run(self.rest, self.restart, duty.is_rest());
-        let full = rest == self.restart;
-        CycleState {
-            days: self.days,
-            limit: self.limit,
-            restart: self.restart,
-            duty: count_on(&self.duty, self.days, quarter, duty.is_on_duty(), full),
-            rest,
+            row: CycleRow {
+                days: days.clamp(1, MOST_DAYS),
+                limit: limit.clamp(1, MOST_LIMIT),
+                restart,
+                duty: [0; 8],
+                rest: restart,
+            },
         }
     }
 }
@@ -158,11 +99,11 @@ impl RuleBook for CycleState {
     }
 
     fn opening(&self) -> Self {
-        CycleState::new(self.days, self.limit, self.restart)
+        CycleState::new(self.row.days, self.row.limit, self.row.restart)
     }
 
     fn verdict(&self, quarter: usize, duty: Duty) -> Option<Violation> {
-        if duty.is_driving() && total(&self.duty) >= self.limit {
+        if duty.is_driving() && total(&self.row.duty) >= self.row.limit {
             Some(Violation {
                 rule: Self::LOWEST,
                 layer: 1,
@@ -174,37 +115,22 @@ impl RuleBook for CycleState {
 
     fn step(&mut self, quarter: usize, duty: Duty) {
         if self.verdict(quarter, duty).is_none() {
-            *self = self.next(quarter.min(HORIZON - 1), duty);
+            *self = CycleState {
+                row: self.row.next(quarter.min(HORIZON - 1), duty),
+            };
         }
     }
 
     fn row(&self) -> CycleRow {
-        CycleRow {
-            days: self.days,
-            limit: self.limit,
-            restart: self.restart,
-            duty: self.duty,
-            rest: self.rest,
-        }
+        self.row
     }
 
+    #[tactic(auto, using(crate::specs::CycleLaws::fits_sound))]
     fn remake(row: &CycleRow) -> Self {
-        let CycleRow {
-            days,
-            limit,
-            restart,
-            duty,
-            rest,
-        } = *row;
-        if fits(row) {
-            return CycleState {
-                days,
-                limit,
-                restart,
-                duty,
-                rest,
-            };
+        if row.fits() {
+            CycleState { row: *row }
+        } else {
+            CycleState::new(row.days, row.limit, row.restart)
         }
-        CycleState::new(days, limit, restart)
     }
 }

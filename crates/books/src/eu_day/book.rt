@@ -1,34 +1,31 @@
 // What the EU day allows, and how it goes on.
 ghost use Rattle.std.specs.Prelude.{◌≡◌, [], ◌∷◌};
+ghost use Rattle.books.specs.Bounds.{DaySound};
 ghost use Rattle.books.specs.Sets.{Lawful, day_rules};
-ghost use Rattle.books.specs.EuDay.{day_row, DaySound, opened_day, day_names, day_after, remade_day};
+ghost use Rattle.books.specs.EuDay.{day_row, opened_day, day_names, day_after, remade_day};
 ghost use Rattle.books.specs.EuDays.{day_tied};
 ghost use Rattle.books.specs.Tied.{tied_judged};
 ghost use Rattle.std.proofs.Common.{rules};
 
 use super::EuDay;
-use crate::period::PeriodRow;
+use crate::period::{Limits, PeriodRow};
 use duty::Duty;
 use rules::book::{Figures, RuleBook};
 use rules::breach::Violation;
 
-// The quarters after a full rest in which duty is allowed.
-const ELAPSED: u16 = 52;
-
-// The driving quarters among them.
-const DRIVEN: u16 = 36;
-
-// A full rest.
-const REST: u16 = 44;
+// Duty within 52 quarters after a rest of 44, at most 36 of them driving.
+const LIMITS: Limits = Limits {
+    elapsed: 52,
+    driven: 36,
+    rest: 44,
+};
 
 impl EuDay {
     pub fn new() -> EuDay
         ensures { day_row result ≡ opened_day }
     {
         EuDay {
-            elapsed: 0,
-            driven: 0,
-            rest: REST,
+            row: PeriodRow::opened(LIMITS.rest),
         }
     }
 }
@@ -102,12 +99,12 @@ impl RuleBook for EuDay {
         if duty.is_rest() {
             return None;
         }
-        if self.elapsed >= ELAPSED {
+        if self.row.elapsed >= LIMITS.elapsed {
             Some(Violation {
                 rule: Self::LOWEST,
                 layer: 1,
             })
-        } else if duty.is_driving() && self.driven >= DRIVEN {
+        } else if duty.is_driving() && self.row.driven >= LIMITS.driven {
             Some(Violation {
                 rule: Self::HIGHEST,
                 layer: 1,
@@ -119,43 +116,19 @@ impl RuleBook for EuDay {
 
     fn step(&mut self, quarter: usize, duty: Duty) {
         if self.verdict(quarter, duty).is_none() {
-            let PeriodRow {
-                elapsed,
-                driven,
-                rest,
-            } = self.row().next(REST, ELAPSED, duty);
             *self = EuDay {
-                elapsed,
-                driven,
-                rest,
+                row: self.row.next(LIMITS, duty),
             };
         }
     }
 
     fn row(&self) -> PeriodRow {
-        PeriodRow {
-            elapsed: self.elapsed,
-            driven: self.driven,
-            rest: self.rest,
-        }
+        self.row
     }
 
     fn remake(row: &PeriodRow) -> Self {
-        let PeriodRow {
-            elapsed,
-            driven,
-            rest,
-        } = *row;
-        if elapsed <= ELAPSED
-            && driven <= DRIVEN
-            && rest <= REST
-            && (rest < REST || (elapsed == 0 && driven == 0))
-        {
-            EuDay {
-                elapsed,
-                driven,
-                rest,
-            }
+        if row.fits(LIMITS) {
+            EuDay { row: *row }
         } else {
             EuDay::new()
         }

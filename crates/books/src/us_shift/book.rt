@@ -1,25 +1,24 @@
 // What the US shift allows, and how it goes on.
 ghost use Rattle.std.specs.Prelude.{◌≡◌, [], ◌∷◌};
+ghost use Rattle.books.specs.Bounds.{ShiftSound};
 ghost use Rattle.books.specs.Sets.{Lawful, shift_rules};
-ghost use Rattle.books.specs.UsShift.{shift_row, ShiftSound, opened_shift, shift_names, shift_after, remade_shift};
+ghost use Rattle.books.specs.UsShift.{shift_row, opened_shift, shift_names, shift_after, remade_shift};
 ghost use Rattle.books.specs.Shift.{shift_tied};
 ghost use Rattle.books.specs.Tied.{tied_judged};
 ghost use Rattle.std.proofs.Common.{rules};
 
 use super::UsShift;
-use crate::period::PeriodRow;
+use crate::period::{Limits, PeriodRow};
 use duty::Duty;
 use rules::book::{Figures, RuleBook};
 use rules::breach::Violation;
 
-// The quarters after a full rest in which driving is allowed.
-const ELAPSED: u16 = 56;
-
-// The driving quarters among them.
-const DRIVEN: u16 = 44;
-
-// A full rest.
-const REST: u16 = 40;
+// Driving within 56 quarters after a rest of 40, at most 44 of them driving.
+const LIMITS: Limits = Limits {
+    elapsed: 56,
+    driven: 44,
+    rest: 40,
+};
 
 impl UsShift {
     // The state before quarter 0.
@@ -27,9 +26,7 @@ impl UsShift {
         ensures { shift_row result ≡ opened_shift }
     {
         UsShift {
-            elapsed: 0,
-            driven: 0,
-            rest: REST,
+            row: PeriodRow::opened(LIMITS.rest),
         }
     }
 }
@@ -103,12 +100,12 @@ impl RuleBook for UsShift {
         if !duty.is_driving() {
             return None;
         }
-        if self.elapsed >= ELAPSED {
+        if self.row.elapsed >= LIMITS.elapsed {
             Some(Violation {
                 rule: Self::LOWEST,
                 layer: 1,
             })
-        } else if self.driven >= DRIVEN {
+        } else if self.row.driven >= LIMITS.driven {
             Some(Violation {
                 rule: Self::HIGHEST,
                 layer: 1,
@@ -120,43 +117,19 @@ impl RuleBook for UsShift {
 
     fn step(&mut self, quarter: usize, duty: Duty) {
         if self.verdict(quarter, duty).is_none() {
-            let PeriodRow {
-                elapsed,
-                driven,
-                rest,
-            } = self.row().next(REST, ELAPSED, duty);
             *self = UsShift {
-                elapsed,
-                driven,
-                rest,
+                row: self.row.next(LIMITS, duty),
             };
         }
     }
 
     fn row(&self) -> PeriodRow {
-        PeriodRow {
-            elapsed: self.elapsed,
-            driven: self.driven,
-            rest: self.rest,
-        }
+        self.row
     }
 
     fn remake(row: &PeriodRow) -> Self {
-        let PeriodRow {
-            elapsed,
-            driven,
-            rest,
-        } = *row;
-        if elapsed <= ELAPSED
-            && driven <= DRIVEN
-            && rest <= REST
-            && (rest < REST || (elapsed == 0 && driven == 0))
-        {
-            UsShift {
-                elapsed,
-                driven,
-                rest,
-            }
+        if row.fits(LIMITS) {
+            UsShift { row: *row }
         } else {
             UsShift::new()
         }

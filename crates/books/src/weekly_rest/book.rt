@@ -1,7 +1,8 @@
 // What the EU weekly rest allows, and how it goes on.
 ghost use Rattle.std.specs.Prelude.{◌≡◌, [], ◌∷◌};
+ghost use Rattle.books.specs.Bounds.{WeeklyRestSound};
 ghost use Rattle.books.specs.Sets.{Lawful, weekly_rest_rules};
-ghost use Rattle.books.specs.WeeklyRest.{weekly_rest_row, WeeklyRestSound, opened_weekly_rest, weekly_rest_names, weekly_rest_after, remade_weekly_rest};
+ghost use Rattle.books.specs.WeeklyRest.{weekly_rest_row, opened_weekly_rest, weekly_rest_names, weekly_rest_after, remade_weekly_rest};
 ghost use Rattle.books.specs.LongRest.{weekly_rest_tied};
 ghost use Rattle.books.specs.Tied.{tied_judged};
 ghost use Rattle.std.proofs.Common.{rules};
@@ -17,8 +18,10 @@ impl WeeklyRestState {
         ensures { weekly_rest_row result ≡ opened_weekly_rest }
     {
         WeeklyRestState {
-            elapsed: 0,
-            rest: REST,
+            row: WeeklyRestRow {
+                elapsed: 0,
+                rest: REST,
+            },
         }
     }
 }
@@ -89,7 +92,7 @@ impl RuleBook for WeeklyRestState {
     }
 
     fn verdict(&self, quarter: usize, duty: Duty) -> Option<Violation> {
-        if duty.is_on_duty() && self.elapsed >= ELAPSED {
+        if duty.is_on_duty() && self.row.elapsed >= ELAPSED {
             Some(Violation {
                 rule: Self::LOWEST,
                 layer: 1,
@@ -101,22 +104,19 @@ impl RuleBook for WeeklyRestState {
 
     fn step(&mut self, quarter: usize, duty: Duty) {
         if self.verdict(quarter, duty).is_none() {
-            let WeeklyRestRow { elapsed, rest } = self.row().next(duty);
-            *self = WeeklyRestState { elapsed, rest };
+            *self = WeeklyRestState {
+                row: self.row.next(duty),
+            };
         }
     }
 
     fn row(&self) -> WeeklyRestRow {
-        WeeklyRestRow {
-            elapsed: self.elapsed,
-            rest: self.rest,
-        }
+        self.row
     }
 
     fn remake(row: &WeeklyRestRow) -> Self {
-        let WeeklyRestRow { elapsed, rest } = *row;
-        if elapsed <= ELAPSED && rest <= REST && (rest < REST || elapsed == 0) {
-            WeeklyRestState { elapsed, rest }
+        if row.elapsed <= ELAPSED && row.rest <= REST && (row.rest < REST || row.elapsed == 0) {
+            WeeklyRestState { row: *row }
         } else {
             WeeklyRestState::new()
         }

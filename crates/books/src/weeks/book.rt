@@ -1,7 +1,8 @@
 // What the EU weeks allow, and how they go on.
 ghost use Rattle.std.specs.Prelude.{◌≡◌, [], ◌∷◌};
+ghost use Rattle.books.specs.Bounds.{WeeksSound};
 ghost use Rattle.books.specs.Sets.{Lawful, weeks_rules};
-ghost use Rattle.books.specs.EuWeeks.{weeks_row, WeeksSound, opened_weeks, weeks_names, weeks_after, remade_weeks};
+ghost use Rattle.books.specs.EuWeeks.{weeks_row, opened_weeks, weeks_names, weeks_after, remade_weeks};
 ghost use Rattle.books.specs.TwoWeeks.{weeks_tied};
 ghost use Rattle.books.specs.Tied.{tied_judged};
 ghost use Rattle.std.proofs.Common.{rules};
@@ -22,7 +23,9 @@ impl WeeksState {
     pub fn new() -> WeeksState
         ensures { weeks_row result ≡ opened_weeks }
     {
-        WeeksState { this: 0, last: 0 }
+        WeeksState {
+            row: WeeksRow { this: 0, last: 0 },
+        }
     }
 }
 
@@ -95,12 +98,12 @@ impl RuleBook for WeeksState {
         if !duty.is_driving() {
             return None;
         }
-        if self.this >= WEEK_DRIVEN {
+        if self.row.this >= WEEK_DRIVEN {
             Some(Violation {
                 rule: Self::LOWEST,
                 layer: 1,
             })
-        } else if self.this + self.last >= FORTNIGHT_DRIVEN {
+        } else if self.row.this + self.row.last >= FORTNIGHT_DRIVEN {
             Some(Violation {
                 rule: Self::HIGHEST,
                 layer: 1,
@@ -112,22 +115,19 @@ impl RuleBook for WeeksState {
 
     fn step(&mut self, quarter: usize, duty: Duty) {
         if self.verdict(quarter, duty).is_none() {
-            let WeeksRow { this, last } = self.row().next(quarter.min(HORIZON - 1), duty);
-            *self = WeeksState { this, last };
+            *self = WeeksState {
+                row: self.row.next(quarter.min(HORIZON - 1), duty),
+            };
         }
     }
 
     fn row(&self) -> WeeksRow {
-        WeeksRow {
-            this: self.this,
-            last: self.last,
-        }
+        self.row
     }
 
     fn remake(row: &WeeksRow) -> Self {
-        let WeeksRow { this, last } = *row;
-        if this <= WEEK_DRIVEN && last <= WEEK_DRIVEN {
-            WeeksState { this, last }
+        if row.this <= WEEK_DRIVEN && row.last <= WEEK_DRIVEN {
+            WeeksState { row: *row }
         } else {
             WeeksState::new()
         }
