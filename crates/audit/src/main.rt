@@ -18,7 +18,7 @@ fn main(rt: HostRuntime) -> io::Result<()> {
     let mut text = Vec::new(heap);
     rt.stdin().take(MOST + 1).read_to_end(&mut text)?;
     let (name, log) = first_line(text.as_slice());
-    let Some(set) = RuleSet::from_name(name.trim_ascii()) else {
+    let Ok(set) = RuleSet::try_from(name.trim_ascii()) else {
         return report::refused(&rt, Refusal::Spelling);
     };
     if text.len() as u64 > MOST {

@@ -1,6 +1,6 @@
 // The named rule sets, and the judge at one of them.
-ghost use Rattle.std.specs.Prelude.{◌≡◌, MatchOption};
-ghost use Rattle.books.specs.Names.{set_name, sentences};
+ghost use Rattle.std.specs.Prelude.{◌≡◌};
+ghost use Rattle.books.specs.Names.{set_name, SetNamed, sentences};
 ghost use Rattle.books.specs.Verdicts.{JudgedBy};
 ghost use Rattle.books.specs.Piles.{us_row, given_us, opened_us, eu_row, opened_eu};
 
@@ -33,19 +33,24 @@ impl RuleSet {
             RuleSet::Eu => "eu",
         }
     }
+}
 
-    // The set of that name.
-    pub fn from_name(name: &[u8]) -> Option<RuleSet>
-        ensures { MatchOption result ((set : RuleSet) → name.now ≡ set_name set → ⊥) (λ set. name.now ≡ set_name set) }
-    {
-        if name == b"us7".as_slice() {
-            Some(RuleSet::Us7)
-        } else if name == b"us8".as_slice() {
-            Some(RuleSet::Us8)
-        } else if name == b"eu".as_slice() {
-            Some(RuleSet::Eu)
-        } else {
-            None
+// No rule set has that name.
+#[derive(Clone, Copy, PartialEq, Eq, Debug)]
+pub struct NoSuchSet;
+
+// The set of that name.
+impl TryFrom<&[u8]> for RuleSet {
+    type Error = NoSuchSet;
+
+    ghost try_from_gives = { λ name found. SetNamed name.now found };
+
+    fn try_from(name: &[u8]) -> Result<RuleSet, NoSuchSet> {
+        match name {
+            b"us7" => Ok(RuleSet::Us7),
+            b"us8" => Ok(RuleSet::Us8),
+            b"eu" => Ok(RuleSet::Eu),
+            _ => Err(NoSuchSet),
         }
     }
 }
@@ -100,6 +105,7 @@ pub fn eu() -> EuBook
 }
 
 // The lawful length of a log under a rule set, and the first breach if there is one.
+// Each arm has a judge of its own: the books are of different types.
 pub fn judge_by(set: RuleSet, log: &[u8]) -> Result<(usize, Option<Breach>), Refusal>
     ensures { JudgedBy (sentences set) log.now result }
 {

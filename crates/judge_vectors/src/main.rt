@@ -14,7 +14,7 @@ fn answer_to(heap: Global, line: &str) -> Result<Answer, AllocError> {
     let Some(name) = line.split_whitespace().next() else {
         return Ok(Answer(Err(Refusal::Spelling)));
     };
-    let Some(set) = RuleSet::from_name(name.as_bytes()) else {
+    let Ok(set) = RuleSet::try_from(name.as_bytes()) else {
         return Ok(Answer(Err(Refusal::Spelling)));
     };
     match log_of(heap, line)? {

@@ -70,7 +70,7 @@ fn read_rules(place: usize, name: &[u8]) -> Result<Line, Refusal>
     if place != 1 {
         return Err(Refusal::Spelling);
     }
-    let Some(set) = RuleSet::from_name(name) else {
+    let Ok(set) = RuleSet::try_from(name) else {
         return Err(Refusal::Spelling);
     };
     Ok(Line::Rules(set))

@@ -24,7 +24,7 @@ fn run_by(heap: Global, set: RuleSet, calls: &[Call]) -> Result<Vec<Answer>, All
 
 // The rule set that is the line's first word.
 fn set_of(line: &str) -> Option<RuleSet> {
-    RuleSet::from_name(line.split_whitespace().next()?.as_bytes())
+    RuleSet::try_from(line.split_whitespace().next()?.as_bytes()).ok()
 }
 
 fn print_refusal(rt: &HostRuntime, why: Refusal) -> io::Result<()> {
