@@ -1,23 +1,8 @@
 -- Bytes cut at a mark.
-use Rattle.std.proofs.Common.{◌≡◌, ℕ, zero, suc, ◌+◌, ◌-◌, ◌<◌, Bool, true, not, ◌&&◌, eqb, List, [], ◌∷◌, ◌++◌, length, get_or, take, drop, sym, refl, ap, ◌∙◌, inl, inr, arith}
-use Rattle.std.proofs.lemmas.List.{take-append-drop, drop_more, get_or-take, length-append, length-take, take_rest}
+use Rattle.std.proofs.Common.{◌≡◌, ℕ, zero, suc, ◌<◌, Bool, true, not, ◌&&◌, eqb, List, [], ◌∷◌, ◌++◌, length, get_or, drop, sym, refl, ap, inl, inr, arith}
+use Rattle.std.proofs.lemmas.List.{length-append}
 use Rattle.std.proofs.lemmas.Bool.{and_parts, eqb-false, not-true}
-use Rattle.fields.specs.Cuts.{Lacks, Parted, FirstLine}
-
-pub cut_at : (mark : ℕ) (bytes : List ℕ) (i : ℕ) → i < length bytes → get_or bytes i 0 ≡ mark → ((k : ℕ) → k < i → get_or bytes k 0 ≡ mark → ⊥) → Parted mark bytes (take (i - 0) bytes) (take (length bytes - (i + 1)) (drop (i + 1) bytes))
-cut_at mark bytes i within is before =
-    let same : i - 0 ≡ i = omega arith in
-    record {
-      unbroken = λ k lt e.
-          let below : k < i = omega (arith, length-take (i - 0) bytes) in
-          let under : k < i - 0 = omega arith in
-          before k below (sym (get_or-take (i - 0) bytes k 0 under) ∙ e);
-      whole =
-          sym (take-append-drop i bytes)
-          ∙ ap (λ xs. take i bytes ++ xs) (drop_more bytes i 0 within ∙ ap (λ b. b ∷ drop (i + 1) bytes) is)
-          ∙ ap (λ n. take n bytes ++ mark ∷ drop (i + 1) bytes) (sym same)
-          ∙ ap (λ xs. take (i - 0) bytes ++ mark ∷ xs) (sym (take_rest bytes (i + 1)));
-    }
+use Rattle.fields.specs.Cuts.{Lacks, FirstLine}
 
 -- what lacks the mark still lacks it without its first byte
 pub lacks_tail : (mark x : ℕ) (xs : List ℕ) → Lacks mark (x ∷ xs) → Lacks mark xs
@@ -47,11 +32,6 @@ pub lacks_so : (mark : ℕ) (xs : List ℕ) → lacks mark xs ≡ true → Lacks
 lacks_so mark [] e k lt is = omega arith
 lacks_so mark (x ∷ xs) e zero lt is = eqb-false x mark (not-true _ (and_parts _ _ e).0) is
 lacks_so mark (x ∷ xs) e (suc k) lt is = lacks_so mark xs (and_parts _ _ e).1 k (omega arith) is
-
-pub one_byte : (xs : List ℕ) → length xs ≡ 1 → xs ≡ get_or xs 0 0 ∷ []
-one_byte [] e = absurd (omega arith)
-one_byte (x ∷ []) e = refl
-one_byte (x ∷ y ∷ ys) e = absurd (omega arith)
 
 -- what stands behind a line is shorter than the text
 pub rest_shorter : (text line rest : List ℕ) → FirstLine text line rest → 0 < length text → length rest < length text

@@ -1,13 +1,11 @@
 -- Numbers of 1 to 4 digits, and what is written of them.
-use Rattle.std.proofs.Common.{◌≡◌, ℕ, ◌-◌, ◌^◌, ◌<◌, ◌≤◌, List, ◌∷◌, ◌++◌, length, get_or, take, Some, None, decimal, Option, sym, refl, ap, ◌∙◌, subst, inl, inr, arith, lit<}
+use Rattle.std.proofs.Common.{◌≡◌, ℕ, ◌^◌, ◌<◌, ◌≤◌, List, ◌∷◌, ◌++◌, length, get_or, take, Some, None, decimal, Option, sym, refl, ap, ◌∙◌, subst, MatchOption, inl, inr, arith, lit<}
 use Rattle.std.proofs.lemmas.Fmt.{digits_decimal, digits_value-decimal, decimal-digits_value, decimal_nonempty, length-decimal-le, first_decimal, decimal_digit, decimal_injective}
 use Rattle.std.proofs.lemmas.List.{get_or-take, length-take}
 use Rattle.std.proofs.lemmas.Str.Parse.{IsNumeralModel, numerals_by_value, tells_by_index, digits_value_short}
 use Rattle.std.proofs.lemmas.Bool.{cases_eq}
-use Rattle.std.proofs.lemmas.Bool.Decides.{nat_tests}
 use Rattle.std.specs.Str.Parse.{digits_value}
 use Rattle.std.specs.Int.{IsInRange}
-use Rattle.std.specs.Char.{digit_value as digitValue}
 use Rattle.fields.specs.Cuts.{Lacks}
 use Rattle.fields.specs.Numbers.{Spells}
 use Rattle.fields.proofs.Cutting.{parted_once}
@@ -64,21 +62,13 @@ led_once m n xs ys hm hn e =
 abbrev pub Inverse : List ℕ → Option ℕ → Type 0
 Inverse field r = (n : ℕ) → n ≤ 9999 → (r ≡ Some n → field ≡ decimal n) × (field ≡ decimal n → r ≡ Some n)
 
-some_same : (m n : ℕ) → Some m ≡ Some n → m ≡ n
-some_same m n e = cc
-
-none-some : (n : ℕ) → None ≡ Some n → ⊥
-none-some n e = let z : ◌≡◌ {A = ℕ} 0 1 = cc in omega arith
-
-pub inverse_taken : (field : List ℕ) (m : ℕ) → Spells field m → Inverse field (Some m)
-inverse_taken field m h n few = (
-  λ e. spells_decimal field m h ∙ ap decimal (some_same m n e),
+pub read_back : (field : List ℕ) (r : Option ℕ) → MatchOption r ((n : ℕ) → Spells field n → ⊥) (Spells field) → Inverse field r
+read_back field (Some m) h n few = (
+  λ e. let same : m ≡ n = cc in spells_decimal field m h ∙ ap decimal same,
   λ e. ap Some (decimal_injective m n (small m (spells_small field m h)) (small n few) (sym (spells_decimal field m h) ∙ e)),
 )
-
-pub inverse_refused : (field : List ℕ) → ((n : ℕ) → Spells field n → ⊥) → Inverse field None
-inverse_refused field none n few =
-    (λ e. absurd (none-some n e), λ e. absurd (none n (subst (λ f. Spells f n) (sym e) (decimal_spells n few))))
+read_back field None none n few =
+    (λ e. cc, λ e. absurd (none n (subst (λ f. Spells f n) (sym e) (decimal_spells n few))))
 
 -- the first three digits or fewer write a number below 1,000
 pub front_small : (field : List ℕ) (i : ℕ) → i ≤ 3 → ((k : ℕ) → k < i → IsInRange 48 57 (get_or field k 0)) → digits_value 10 (take i field) < 1000
@@ -86,6 +76,3 @@ front_small field i few digits =
     digits_value_short own (take i field) 3
     (λ k lt. let below : k < i = omega (arith, length-take i field) in subst (IsInRange 48 57) (sym (get_or-take i field k 0 below)) (digits k below))
     (omega (arith, length-take i field))
-
-pub digit_value : (b : ℕ) → IsInRange 48 57 b → digitValue b ≡ b - 48
-digit_value b h = grind (arith, nat_tests)

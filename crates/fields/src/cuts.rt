@@ -6,22 +6,17 @@ ghost use Rattle.fields.specs.Cuts.{Lacks, Parted, FirstLine};
 pub fn cut_at(bytes: &[u8], mark: u8) -> Option<(&[u8], &[u8])>
     ensures { MatchOption result (Lacks mark bytes.now) (λ parts. Parted mark bytes.now parts.0.now parts.1.now) }
 {
-    for (i, byte) in bytes.iter().enumerate() {
-        if *byte == mark {
-            return Some((&bytes[0..i], &bytes[i + 1..]));
-        }
-    }
-    None
+    let i = bytes.iter().position(|byte| *byte == mark)?;
+    Some((&bytes[..i], &bytes[i + 1..]))
 }
 
 // The byte that is the whole field, or nothing where there are more or none.
 pub fn single(field: &[u8]) -> Option<u8>
     ensures { MatchOption result ((byte : ℕ) → field.now ≢ byte ∷ []) (λ byte. field.now ≡ byte ∷ []) }
 {
-    if field.len() == 1 {
-        Some(field[0])
-    } else {
-        None
+    match field {
+        [byte] => Some(*byte),
+        _ => None,
     }
 }
 

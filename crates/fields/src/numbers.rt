@@ -11,10 +11,11 @@ const MOST_DIGITS: usize = 4;
 fn is_padded(field: &[u8]) -> bool
     ensures { Decides result ((1 < length field.now) × (slice_index field.now 0 ≡ 48)) }
 {
-    field.len() > 1 && field[0] == b'0'
+    matches!(field, [b'0', _, ..])
 }
 
 // The number that a field spells, or nothing where it spells none. It reads back what is written of each number up to 9,999.
+#[tactic(auto, using(crate::proofs::Numerals::front_small))]
 pub fn read_number(field: &[u8]) -> Option<u16>
     ensures value { MatchOption result ((n : ℕ) → Spells field.now n → ⊥) (λ n. Spells field.now n) }
     ensures inverse { (n : ℕ) → n ≤ 9999 → (result ≡ Some n → field.now ≡ decimal n) × (field.now ≡ decimal n → result ≡ Some n) }
