@@ -24,8 +24,5 @@ pub fn single(field: &[u8]) -> Option<u8>
 pub fn first_line(text: &[u8]) -> (&[u8], &[u8])
     ensures { FirstLine text.now result.0.now result.1.now }
 {
-    match cut_at(text, b'\n') {
-        Some(parts) => parts,
-        None => (text, &text[text.len()..]),
-    }
+    cut_at(text, b'\n').unwrap_or((text, &[]))
 }

@@ -21,10 +21,7 @@ pub fn read_number(field: &[u8]) -> Option<u16>
     ensures inverse { (n : ℕ) → n ≤ 9999 → (result ≡ Some n → field.now ≡ decimal n) × (field.now ≡ decimal n → result ≡ Some n) }
     ensures bound { IfSome result (λ n. n ≤ 9999) }
 {
-    if field.is_empty() || field.len() > MOST_DIGITS {
-        return None;
-    }
-    if is_padded(field) {
+    if field.is_empty() || field.len() > MOST_DIGITS || is_padded(field) {
         return None;
     }
     let mut number = 0u16;

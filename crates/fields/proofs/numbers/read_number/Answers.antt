@@ -7,9 +7,6 @@ use Rattle.fields.proofs.numbers.read_number.Goals as goal
 pub returns-then-is_empty-clause-inverse : goal.returns-then-is_empty-clause-inverse
 returns-then-is_empty-clause-inverse c = read_back c.args.field.now None (search rules)
 
-pub returns-then-is_padded-clause-inverse : goal.returns-then-is_padded-clause-inverse
-returns-then-is_padded-clause-inverse c = read_back c.args.field.now None (search rules)
-
 pub returns-then-not-is_ascii_digit-clause-inverse : goal.returns-then-not-is_ascii_digit-clause-inverse
 returns-then-not-is_ascii_digit-clause-inverse c = read_back c.args.field.now None (search rules)
 
