@@ -1,20 +1,9 @@
-// Cuts the input into the first line and the letters after it.
+// The input in its two parts: a name in the first line, and a log in what stands after it.
 ghost use Rattle.std.specs.Prelude.{◌≡◌, IfOk, filter};
 ghost use Rattle.audit.specs.Input.{spaced, inked, Cut};
 
+use fields::cuts::first_line;
 use std::alloc::{AllocError, Global};
-
-// The bytes before the first line end, and those after it.
-pub fn first_line(text: &[u8]) -> (&[u8], &[u8])
-    ensures { Cut text.now result.0.now result.1.now }
-{
-    for (i, byte) in text.iter().enumerate() {
-        if *byte == b'\n' {
-            return (&text[0..i], &text[i + 1..]);
-        }
-    }
-    (text, &text[text.len()..])
-}
 
 // Whether the byte is white space: a blank, a tab, a line end, a form feed or a carriage return.
 fn is_space(byte: u8) -> bool
@@ -23,15 +12,29 @@ fn is_space(byte: u8) -> bool
     matches!(byte, b' ' | b'\t' | b'\n' | 0x0c | b'\r')
 }
 
-// What is left of the text without its white space.
-pub fn letters(heap: Global, text: &[u8]) -> Result<Vec<u8>, AllocError>
-    ensures { IfOk result (λ v. v.items ≡ filter inked text.now) }
-{
-    let mut bytes = Vec::new(heap);
-    for byte in text {
-        if !is_space(*byte) {
-            bytes.push(*byte)?;
-        }
+#[derive(Clone, Copy)]
+pub struct Input<'a> {
+    pub name: &'a [u8],
+    pub log: &'a [u8],
+}
+
+impl<'a> Input<'a> {
+    // The bytes before the first line end, and those after it.
+    pub fn of(text: &'a [u8]) -> Self
+        ensures { Cut text.now result.name.now result.log.now }
+    {
+        let (name, log) = first_line(text);
+        Input { name, log }
     }
-    Ok(bytes)
+
+    // What is left of the log without its white space.
+    pub fn letters(&self, heap: Global) -> Result<Vec<u8>, AllocError>
+        ensures { IfOk result (λ v. v.items ≡ filter inked self.now.log.now) }
+    {
+        self.log
+            .iter()
+            .filter(|byte| !is_space(**byte))
+            .copied()
+            .collect(heap)
+    }
 }

@@ -1,21 +1,12 @@
 // What the program prints: a first line for programs, and then what a person wants to know.
 use books::sets::RuleSet;
+use duty::{DAY, WEEK};
 use rules::breach::Breach;
 use rules::refusal::Refusal;
 use std::io;
 
-// The short name of the quarter's day; quarter 0 is on a Monday.
-fn day_name(quarter: usize) -> &'static str {
-    match quarter / 96 % 7 {
-        0 => "Mon",
-        1 => "Tue",
-        2 => "Wed",
-        3 => "Thu",
-        4 => "Fri",
-        5 => "Sat",
-        _ => "Sun",
-    }
-}
+// The short names of the days, from that of quarter 0.
+const DAYS: [&str; 7] = ["Mon", "Tue", "Wed", "Thu", "Fri", "Sat", "Sun"];
 
 // What each rule asks, in the figures of the named sets.
 fn rule_text(set: RuleSet, rule: u8) -> &'static str {
@@ -79,10 +70,10 @@ pub(crate) fn breached(
         layer,
     } = breach;
     let name = set.name();
-    let day = day_name(quarter);
-    let hour = quarter % 96 / 4;
+    let day = DAYS[quarter / DAY % DAYS.len()];
+    let hour = quarter % DAY / 4;
     let minute = quarter % 4 * 15;
-    let week = quarter / 672 + 1;
+    let week = quarter / WEEK + 1;
     let text = rule_text(set, rule);
     println!(rt; "breach,{breach}")?;
     println!(rt; "Read {length} quarters under {name}: the first {quarter} are lawful.")?;
