@@ -1,16 +1,9 @@
 // The input in its two parts: a name in the first line, and a log in what stands after it.
 ghost use Rattle.std.specs.Prelude.{◌≡◌, IfOk, filter};
-ghost use Rattle.audit.specs.Input.{spaced, inked, Cut};
+ghost use Rattle.audit.specs.Input.{inked, Cut};
 
 use fields::cuts::first_line;
 use std::alloc::{AllocError, Global};
-
-// Whether the byte is white space: a blank, a tab, a line end, a form feed or a carriage return.
-fn is_space(byte: u8) -> bool
-    ensures { result ≡ spaced byte }
-{
-    matches!(byte, b' ' | b'\t' | b'\n' | 0x0c | b'\r')
-}
 
 #[derive(Clone, Copy)]
 pub struct Input<'a> {
@@ -33,7 +26,7 @@ impl<'a> Input<'a> {
     {
         self.log
             .iter()
-            .filter(|byte| !is_space(**byte))
+            .filter(|byte| !byte.is_ascii_whitespace())
             .copied()
             .collect(heap)
     }
