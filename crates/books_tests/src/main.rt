@@ -5,30 +5,18 @@
 mod piles;
 
 use case_lines::answer::Answer;
-use case_lines::run::log_of;
-use rules::refusal::Refusal;
-use std::alloc::{AllocError, Global};
+use case_lines::case::Case;
 use std::io;
 use std::io::{BufRead, BufReader};
-
-// The answer to a line; one that spells no pile or no log is refused as spelled wrong.
-fn answer_to(heap: Global, line: &str) -> Result<Answer, AllocError> {
-    let Some(name) = line.split_whitespace().next() else {
-        return Ok(Answer(Err(Refusal::Spelling)));
-    };
-    match log_of(heap, line)? {
-        None => Ok(Answer(Err(Refusal::Spelling))),
-        Some(log) => Ok(Answer(piles::judged(name.as_bytes(), log.as_slice()))),
-    }
-}
 
 fn main(rt: HostRuntime) -> io::Result<()> {
     let heap = rt.alloc();
     for line in BufReader::new(heap, rt.stdin())?.lines(heap) {
         let line = line?;
         if !line.as_str().starts_with("#") {
-            let answer = answer_to(heap, line.as_str())?;
-            println!(rt; "{answer}")?;
+            let found = Case::of(heap, line.as_str())?
+                .and_then(|case| piles::judged(case.name, case.log.as_slice()));
+            println!(rt; "{}", Answer(found))?;
         }
     }
     Ok(())

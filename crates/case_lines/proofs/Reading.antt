@@ -1,11 +1,9 @@
 -- A line read word by word: one word more, one run more, and the log as far as it may go.
 use Rattle.std.proofs.Common.{◌≡◌, ℕ, ◌+◌, ◌-◌, ◌<◌, min, List, [], ◌∷◌, ◌++◌, length, take, drop, replicate, refl, sym, ap, ◌∙◌, inl, inr, arith, append_assoc, take_all}
 use Rattle.std.proofs.lemmas.Bool.{cases_lt}
-use Rattle.std.proofs.lemmas.Bool.Decides.{nat_tests}
 use Rattle.std.proofs.lemmas.List.{take-append-le, take-replicate, length-take, append-nil, length-replicate}
 use Rattle.std.proofs.Math.Seq.{take-append-add}
-use Rattle.std.specs.Char.{is_whitespace, is_not_whitespace, digit_value as digitValue}
-use Rattle.std.specs.Int.{IsInRange}
+use Rattle.std.specs.Char.{is_whitespace, is_not_whitespace}
 use Rattle.std.specs.Str.{NoCharPasses, EmptyOrStartsWithPassing}
 use Rattle.case_lines.specs.declared.run.Run.{Run}
 use Rattle.case_lines.specs.Spelled.{SpellsRun, Begins, SpellEach, letters}
@@ -61,6 +59,3 @@ pub log_more : (log before : List ℕ) (runs : List Run) (run : Run) → before 
 log_more log before runs run is more =
     more ∙ ap (λ l. l ++ replicate (min run.count (2689 - length l)) run.letter) is
     ∙ held_more 2689 run.count run.letter (letters runs) ∙ ap (take 2689) (sym (letters_more runs run))
-
-pub digit_value : (b : ℕ) → IsInRange 48 57 b → digitValue b ≡ b - 48
-digit_value b h = grind (arith, nat_tests)

@@ -6,7 +6,9 @@
 --   letters runs              the letters of the runs, one run after the other
 --   NoRun text                a word of the text after the first spells no run
 --   SpellsLog text log        every word after the first spells a run, and the log is the letters of these, up to 2689
-use Rattle.std.specs.Prelude.{◌≡◌, ℕ, ◌<◌, min, List, [], ◌∷◌, ◌++◌, length, take, drop, replicate, slice_index}
+--   NoCase text               the text has no word, or one after the first that spells no run
+--   SpellsCase text name log  the name is the text's first word, and the words after it spell the log
+use Rattle.std.specs.Prelude.{◌≡◌, ℕ, ◌<◌, ◌⊎◌, min, List, [], ◌∷◌, ◌++◌, length, take, drop, replicate, slice_index}
 use Rattle.std.specs.Char.{is_whitespace, is_not_whitespace}
 use Rattle.std.specs.Int.{IsInRange}
 use Rattle.std.specs.Str.{NoCharPasses, EmptyOrStartsWithPassing}
@@ -45,3 +47,9 @@ abbrev pub SpellsLog : List ℕ → List ℕ → Type 0
 SpellsLog text log =
     (words : List (List ℕ)) × (rest : List ℕ) × (runs : List Run) × Begins text words rest × NoCharPasses is_not_whitespace rest × SpellEach (drop 1 words) runs
     × (log ≡ take 2689 (letters runs))
+
+abbrev pub NoCase : List ℕ → Type 0
+NoCase text = NoCharPasses is_not_whitespace text ⊎ NoRun text
+
+abbrev pub SpellsCase : List ℕ → List ℕ → List ℕ → Type 0
+SpellsCase text name log = ((rest : List ℕ) × Begins text (name ∷ []) rest) × SpellsLog text log

@@ -1,12 +1,13 @@
 // A log spelled as runs: `W240 R40 D1` is 240 W, 40 R and 1 D.
-ghost use Rattle.std.specs.Prelude.{◌≡◌, ℕ, ◌-◌, min, ◌++◌, replicate, is_ok, if◌then◌else◌, vec_len, IfOk, MatchOption};
+ghost use Rattle.std.specs.Prelude.{◌≡◌, ℕ, ◌-◌, min, ◌++◌, replicate, is_ok, if◌then◌else◌, vec_len, IfOk, MatchOption, MatchResult};
 ghost use Rattle.case_lines.specs.declared.run.Run.{Run};
 ghost use Rattle.case_lines.specs.Spelled.{Held, SpellsRun, NoRun, SpellsLog};
 
+use duty::HORIZON;
 use std::alloc::{AllocError, Global};
 
 // One letter more than a log may have: what comes after it changes no answer.
-const MOST: usize = 2689;
+const MOST: usize = HORIZON + 1;
 
 // A letter, any byte, and how often it stands.
 #[derive(Clone, Copy, PartialEq, Eq, Debug)]
@@ -15,38 +16,46 @@ pub struct Run {
     pub count: usize,
 }
 
-// The number that the digits spell, held at 2689; nothing where another byte stands among them.
-fn held_number(digits: &[u8]) -> Option<usize>
-    ensures { MatchOption result ((n : ℕ) → Held digits.now n → ⊥) (λ n. Held digits.now n) }
+// A word that spells no run.
+#[derive(Clone, Copy, PartialEq, Eq, Debug)]
+pub struct Misspelled;
+
+// The number that the digits spell, held at 2689; an error where another byte stands among them.
+fn held_number(digits: &[u8]) -> Result<usize, Misspelled>
+    ensures { MatchResult result (λ n. Held digits.now n) (λ why. (n : ℕ) → Held digits.now n → ⊥) }
 {
     let mut number = 0usize;
     for digit in digits {
         if !digit.is_ascii_digit() {
-            return None;
+            return Err(Misspelled);
         }
         number = number
             .saturating_mul(10)
             .saturating_add(usize::from(*digit - b'0'))
             .min(MOST);
     }
-    Some(number)
+    Ok(number)
 }
 
-impl Run {
-    // The run that a word spells: its letter, and then its count.
-    pub fn from_word(word: &[u8]) -> Option<Run>
-        ensures { MatchOption result ((run : Run) → SpellsRun word.now run → ⊥) (λ run. SpellsRun word.now run) }
-    {
+// The run that a word spells: its letter, and then its count.
+impl TryFrom<&[u8]> for Run {
+    type Error = Misspelled;
+
+    ghost try_from_gives = { λ word r. MatchResult r (λ run. SpellsRun word.now run) (λ why. (run : Run) → SpellsRun word.now run → ⊥) };
+
+    fn try_from(word: &[u8]) -> Result<Run, Misspelled> {
         let [letter, digits @ ..] = word else {
-            return None;
+            return Err(Misspelled);
         };
         let count = held_number(digits)?;
-        Some(Run {
+        Ok(Run {
             letter: *letter,
             count,
         })
     }
+}
 
+impl Run {
     // Writes the run after the log, as far as 2689 letters.
     pub fn append(self, log: &mut Vec<u8>) -> Result<(), AllocError>
         ensures { log.new.items ≡ (if is_ok result then log.old.items ++ replicate (min self.count (2689 - vec_len log.old)) self.letter else log.old.items) }
@@ -66,7 +75,7 @@ pub fn log_of(heap: Global, line: &str) -> Result<Option<Vec<u8>>, AllocError>
         return Ok(Some(log));
     };
     for word in words {
-        let Some(run) = Run::from_word(word.as_bytes()) else {
+        let Ok(run) = Run::try_from(word.as_bytes()) else {
             return Ok(None);
         };
         run.append(&mut log)?;

@@ -1,5 +1,6 @@
 // Framed texts: of each its length in bytes as a number and a line end, then its bytes, then one more line end.
-ghost use Rattle.std.specs.Prelude.{ℕ, List, MatchOption};
+ghost use Rattle.std.specs.Prelude.{◌≡◌, ℕ, List, MatchOption, length};
+ghost use Rattle.std.specs.Iterator.{at_most};
 ghost use Rattle.framed_texts.specs.Frames.{Framed};
 
 use fields::cuts::cut_at;
@@ -12,8 +13,37 @@ pub fn cut_text(stream: &[u8]) -> Option<(&[u8], &[u8])>
     let (digits, after) = cut_at(stream, b'\n')?;
     let length = usize::from(read_number(digits)?);
     if length < after.len() && after[length] == b'\n' {
-        Some((&after[0..length], &after[length + 1..]))
+        Some((&after[..length], &after[length + 1..]))
     } else {
         None
+    }
+}
+
+// The framed texts that a stream begins with, one after the other.
+#[derive(Clone, Copy)]
+pub struct Frames<'a> {
+    rest: &'a [u8],
+}
+
+impl<'a> Frames<'a> {
+    pub fn of(stream: &'a [u8]) -> Self
+        ensures { result.rest.now ≡ stream.now }
+    {
+        Frames { rest: stream }
+    }
+}
+
+impl<'a> Iterator for Frames<'a> {
+    type Item = &'a [u8];
+
+    // Each text with its frame goes from the front of what is left, and nothing goes where none is there.
+    ghost next_gives = { λ s r t. MatchOption r (((text rest : List ℕ) → Framed s.rest.now text rest → ⊥) × (t.rest.now ≡ s.rest.now)) (λ text. Framed s.rest.now text.now t.rest.now) };
+
+    ghost remaining = { λ s. at_most (length s.rest.now) };
+
+    fn next(&mut self) -> Option<&'a [u8]> {
+        let (text, rest) = cut_text(self.rest)?;
+        self.rest = rest;
+        Some(text)
     }
 }

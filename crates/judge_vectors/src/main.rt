@@ -3,32 +3,27 @@
 
 use books::sets::{RuleSet, judge_by};
 use case_lines::answer::Answer;
-use case_lines::run::log_of;
+use case_lines::case::Case;
+use rules::breach::Breach;
 use rules::refusal::Refusal;
-use std::alloc::{AllocError, Global};
 use std::io;
 use std::io::{BufRead, BufReader};
 
-// The answer to a line; one that spells no set or no log is refused as spelled wrong.
-fn answer_to(heap: Global, line: &str) -> Result<Answer, AllocError> {
-    let Some(name) = line.split_whitespace().next() else {
-        return Ok(Answer(Err(Refusal::Spelling)));
+// What the judge finds at the set of that name.
+fn judged(name: &[u8], log: &[u8]) -> Result<(usize, Option<Breach>), Refusal> {
+    let Ok(set) = RuleSet::try_from(name) else {
+        return Err(Refusal::Spelling);
     };
-    let Ok(set) = RuleSet::try_from(name.as_bytes()) else {
-        return Ok(Answer(Err(Refusal::Spelling)));
-    };
-    match log_of(heap, line)? {
-        None => Ok(Answer(Err(Refusal::Spelling))),
-        Some(log) => Ok(Answer(judge_by(set, log.as_slice()))),
-    }
+    judge_by(set, log)
 }
 
 fn main(rt: HostRuntime) -> io::Result<()> {
     let heap = rt.alloc();
     for line in BufReader::new(heap, rt.stdin())?.lines(heap) {
         let line = line?;
-        let answer = answer_to(heap, line.as_str())?;
-        println!(rt; "{answer}")?;
+        let found = Case::of(heap, line.as_str())?
+            .and_then(|case| judged(case.name, case.log.as_slice()));
+        println!(rt; "{}", Answer(found))?;
     }
     Ok(())
 }

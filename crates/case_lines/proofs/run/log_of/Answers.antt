@@ -1,8 +1,8 @@
-use Rattle.std.proofs.Common.{◌≡◌, ◌-◌, min, replicate, length, vec_len, ap, length-append, ◌∷◌, [], ◌++◌, sym, subst, ◌∙◌, refl, arith}
+use Rattle.std.proofs.Common.{rules, ◌≡◌, ◌-◌, min, replicate, length, vec_len, ap, length-append, ◌∷◌, [], ◌++◌, sym, subst, ◌∙◌, refl, arith}
 use Rattle.std.specs.Str.{NoCharPasses}
 use Rattle.std.specs.Str.Iter.{split_whitespace_rest}
 use Rattle.std.specs.Char.{is_not_whitespace}
-use Rattle.case_lines.specs.Spelled.{Begins, SpellsRun, SpellEach}
+use Rattle.case_lines.specs.Spelled.{Begins, NoRun, SpellsRun, SpellEach}
 use Rattle.case_lines.proofs.Reading.{begins_more, each_more, later_more, log_more}
 use Rattle.case_lines.proofs.run.log_of.Goals as goal
 
@@ -21,18 +21,19 @@ loop-word-init c =
       c.new-log.ensures.items,
     )
 
-pub returns-in_default-from_word : goal.returns-in_default-from_word
-returns-in_default-from_word c =
+pub returns-in_default-try_from : goal.returns-in_default-try_from
+returns-in_default-try_from c =
     let read = c.loop-word.invariant in
-    let none : (run : _) → SpellsRun c.in-Some-word.word.now run → _ = λ run h. c.in_default-from_word.ensures run (subst (λ w. SpellsRun w run) (sym c.as_bytes.ensures.value) h) in
-    (read.0, c.in-Some-word.word.now, _, read.2, begins_more read.0 c.args.line.now _ c.in-Some-word.word.now _ read.3 c.in-Some-word.ensures.steps, none)
+    let none : (run : _) → SpellsRun c.in-Some-word.word.now run → ⊥ = λ run h. c.in_default-try_from.ensures run (subst (λ w. SpellsRun w run) (sym c.as_bytes.ensures.value) h) in
+    let wrong : NoRun c.args.line.now = (read.0, c.in-Some-word.word.now, _, read.2, begins_more read.0 c.args.line.now _ c.in-Some-word.word.now _ read.3 c.in-Some-word.ensures.steps, none) in
+    search rules
 
 pub loop-word-preserved : goal.loop-word-preserved
 loop-word-preserved c =
     let read = c.loop-word.invariant in
     let word = c.in-Some-word.word.now in
-    let run = c.in-Some-from_word.run' in
-    let spelled : SpellsRun word run = subst (λ w. SpellsRun w run) c.as_bytes.ensures.value c.in-Some-from_word.ensures in
+    let run = c.in-Ok.run' in
+    let spelled : SpellsRun word run = subst (λ w. SpellsRun w run) c.as_bytes.ensures.value c.in-Ok.ensures in
     let more : c.append.new.log.items ≡ c.loop-word.log.items ++ replicate (min run.count (2689 - vec_len c.loop-word.log)) run.letter =
     rw c.in_ok-append.was at c.append.ensures
     in
