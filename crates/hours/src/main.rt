@@ -2,7 +2,7 @@
 #![tactic(auto)]
 
 use books::sets::eu;
-use planner::call::{Answer, Call};
+use planner::call::{Answer, Call, Schedule};
 use planner::calls::run_calls;
 use std::io;
 
@@ -26,12 +26,12 @@ fn print_runs(rt: &HostRuntime, letters: &[u8]) -> io::Result<()> {
 
 fn print_answer(rt: &HostRuntime, answer: &Answer) -> io::Result<()> {
     match answer {
-        Answer::Done => Ok(()),
-        Answer::Refused(why) => println!(rt; "refused,{why}"),
-        Answer::Planned { end, letters } => {
+        Ok(None) => Ok(()),
+        Ok(Some(Schedule { end, letters })) => {
             print_runs(rt, letters.as_slice())?;
             println!(rt; "end,{end}")
         }
+        Err(why) => println!(rt; "refused,{why}"),
     }
 }
 

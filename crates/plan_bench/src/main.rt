@@ -6,7 +6,7 @@ mod input;
 
 use books::sets::{RuleSet, eu, us7, us8};
 use input::calls_of;
-use planner::call::{Answer, Call};
+use planner::call::{Answer, Call, Schedule};
 use planner::calls::run_calls;
 use rules::refusal::Refusal;
 use std::alloc::{AllocError, Global};
@@ -34,8 +34,8 @@ fn print_refusal(rt: &HostRuntime, why: Refusal) -> io::Result<()> {
 // Prints the last of the answers; it is `done` where no plan was asked for.
 fn print_last(rt: &HostRuntime, answers: &[Answer]) -> io::Result<()> {
     match answers.last() {
-        Some(Answer::Planned { end, letters: _ }) => println!(rt; "end,{end}"),
-        Some(Answer::Refused(why)) => print_refusal(rt, *why),
+        Some(Ok(Some(Schedule { end, letters: _ }))) => println!(rt; "end,{end}"),
+        Some(Err(why)) => print_refusal(rt, *why),
         _ => rt.println("done"),
     }
 }

@@ -1,22 +1,20 @@
 -- A plan by the card and the tour, in the words of the promise.
-use Rattle.std.proofs.Common.{ℕ, ◌+◌, ◌<◌, ◌≤◌, List, length, IfOk, Ok, Err, Option, Result, refl, subst, inl, inr, arith}
+use Rattle.std.proofs.Common.{ℕ, ◌+◌, ◌<◌, ◌≤◌, List, length, IfOk, Some, None, Ok, Err, Option, Result, refl, subst, inl, inr, arith}
 use Rattle.duty.specs.declared.Duty.{Duty}
 use Rattle.rules.specs.declared.breach.Violation.{Violation}
 use Rattle.rules.specs.Walk.{led, Allowed}
 use Rattle.planning.specs.declared.Stop.{Stop}
-use Rattle.planner.specs.declared.call.Answer.{Answer}
-use Rattle.planner.specs.declared.call.Answer.TheVariants.{Done, Refused, Planned}
 use Rattle.planner.specs.declared.call.Call.TheVariants.{Plan}
 use Rattle.planner.specs.History.{History, now_of, last_stop, width}
-use Rattle.planner.specs.Promise.{Answers}
+use Rattle.planner.specs.Promise.{Answer, Answers}
 use Rattle.planner.specs.Standing.{StandsFor, AnswersPlan}
 use Rattle.planner.proofs.Promised.{crowds-crowded, none-infeasible, schedule-planned}
 
 module _ {R : Type 0} (names : R → ℕ → Duty → Option Violation) (after : R → ℕ → Duty → R) (better : R → R → Type 0) (opened : R) (lawful : List Duty → Type 0) (judged : (l : List Duty) → length l ≤ 2688 → (lawful l → Allowed names after opened 0 l) × (Allowed names after opened 0 l → lawful l)) (h : History) (recorded : Allowed names after opened 0 h.log) (fits : 0 < length h.stops → (last_stop h.stops).closes + (last_stop h.stops).service ≤ 2688) (labels predecessors output : ℕ) where
   promised_plan : (a : Answer) → AnswersPlan names after better h.stops (led after opened 0 h.log) (now_of h) labels predecessors output a → Answers names after better opened lawful h (Plan labels predecessors output) a h
-  promised_plan Done a = absurd a
-  promised_plan (Refused why) (inl unready) = (refl, inl unready)
-  promised_plan (Refused why) (inr (ready, inl ten)) =
+  promised_plan (Ok None) a = absurd a
+  promised_plan (Err why) (inl unready) = (refl, inl unready)
+  promised_plan (Err why) (inr (ready, inl ten)) =
       let none = none-infeasible names after better opened lawful judged h recorded ready.stop (fits ready.stop) (width labels) ten.1 in (
         refl,
         inr (
@@ -28,7 +26,7 @@ module _ {R : Type 0} (names : R → ℕ → Duty → Option Violation) (after :
           },
         ),
       )
-  promised_plan (Refused why) (inr (ready, inr eleven)) =
+  promised_plan (Err why) (inr (ready, inr eleven)) =
       let crowded = crowds-crowded names after better opened lawful judged h recorded ready.stop (fits ready.stop) (width labels) eleven.1 in (
         refl,
         inr (
@@ -37,14 +35,14 @@ module _ {R : Type 0} (names : R → ℕ → Duty → Option Violation) (after :
           record { eleven = ((λ _. crowded), (λ _. eleven.0)); ten = λ other. absurd (other eleven.0) },
         ),
       )
-  promised_plan (Planned end letters) a =
-      let planned = schedule-planned names after better opened lawful judged h recorded a.0.stop (fits a.0.stop) (width labels) a.1.0 end a.1.1 _ a.1.2 in (
+  promised_plan (Ok (Some s)) a =
+      let planned = schedule-planned names after better opened lawful judged h recorded a.0.stop (fits a.0.stop) (width labels) a.1.0 s.end a.1.1 _ a.1.2 in (
         refl,
         a.0,
         planned.0,
         record {
           eleven = ((λ none. absurd none), (λ crowded. absurd (planned.1 crowded)));
-          ten = λ _. ((λ none. absurd none), (λ infeasible. absurd (infeasible planned.0.letters end planned.0.completes)));
+          ten = λ _. ((λ none. absurd none), (λ infeasible. absurd (infeasible planned.0.letters s.end planned.0.completes)));
         },
       )
 

@@ -1,9 +1,10 @@
 -- The promise: which answer fits a call, by the history alone, and a whole run of calls. Assumes nothing.
+--   Answer                                  Err: the call was refused; Ok: it is done, and a plan gives its schedule
 --   Needs .. h q n                          n is the number of labels needed at quarter q
 --   Recording, Adding, Dropping, Planning   which answer fits the call, and the history after it
 --   Exactly .. h k a                        11 exactly where too many labels are needed, and else 10 exactly where no letters complete the log
 --   Kept .. h calls answers                 each answer fits its call in turn
-use Rattle.std.specs.Prelude.{◌≡◌, ℕ, ◌+◌, ◌-◌, ◌<◌, ◌≤◌, ◌⊎◌, List, [], ◌∷◌, ◌++◌, map, length, take, replicate, Some, None, vec_items, Option}
+use Rattle.std.specs.Prelude.{◌≡◌, ℕ, ◌+◌, ◌-◌, ◌<◌, ◌≤◌, ◌⊎◌, List, [], ◌∷◌, ◌++◌, map, length, take, replicate, Some, None, Ok, Err, vec_items, Option, Result}
 use Rattle.duty.specs.declared.Duty.{Duty}
 use Rattle.duty.specs.Duties.{letter_of, duty_of}
 use Rattle.rules.specs.declared.breach.Breach.{Breach}
@@ -15,13 +16,15 @@ use Rattle.rules.specs.Refusals.{number}
 use Rattle.rules.specs.Walk.{led}
 use Rattle.planning.specs.declared.Stop.{Stop}
 use Rattle.planning.specs.Labels.{Needed}
-use Rattle.planner.specs.declared.call.Answer.{Answer}
-use Rattle.planner.specs.declared.call.Answer.TheVariants.{Done, Refused, Planned}
 use Rattle.planner.specs.declared.call.Call.{Call}
 use Rattle.planner.specs.declared.call.Call.TheVariants.{Record, Add, Drop, Plan}
+use Rattle.planner.specs.declared.call.Schedule.{Schedule}
 use Rattle.planner.specs.History.{History, now_of, width, Completes, Counts}
 use Rattle.planner.specs.Plans.{Unready, Ready}
 use Rattle.planner.specs.Ranges.{InRange}
+
+abbrev pub Answer : Type 0
+Answer = Result (Option Schedule) Refusal
 
 -- where a refusal leaves the history as it was
 abbrev pub Refuses : History → History → ℕ → Refusal → Type 0
@@ -29,9 +32,8 @@ Refuses h h' n r = (h' ≡ h) × (number r ≡ n)
 
 -- the answer is a refusal with this number
 abbrev pub RefusedWith : ℕ → Answer → Type 0
-RefusedWith n Done = ⊥
-RefusedWith n (Refused r) = number r ≡ n
-RefusedWith n (Planned end letters) = ⊥
+RefusedWith n (Ok schedule) = ⊥
+RefusedWith n (Err r) = number r ≡ n
 
 module _ {R : Type 0} (names : R → ℕ → Duty → Option Violation) (after : R → ℕ → Duty → R) (better : R → R → Type 0) (opened : R) (lawful : List Duty → Type 0) where
   -- the state's row after the recorded log
@@ -51,24 +53,24 @@ module _ {R : Type 0} (names : R → ℕ → Duty → Option Violation) (after :
 
   -- record: the refusals in their order, or the log grows by the letters, all of them or none
   abbrev pub Recording : History → ℕ → ℕ → Answer → History → Type 0
-  Recording h letter count Done h' =
+  Recording h letter count (Ok None) h' =
       (x : Duty) × (duty_of letter ≡ Some x) × (0 < count) × (now_of h + count ≤ 2688) × lawful (h.log ++ replicate count x) × (h' ≡ record { log = h.log ++ replicate count x; stops = h.stops })
-  Recording h letter count (Refused r) h' =
+  Recording h letter count (Err r) h' =
       (Refuses h h' 1 r × (duty_of letter ≡ None))
       ⊎ ((x : Duty) × (duty_of letter ≡ Some x) × ((Refuses h h' 2 r × ((count ≡ 0) ⊎ (2688 < now_of h + count))) ⊎ (Refuses h h' 3 r × (0 < count) × (now_of h + count ≤ 2688) × FirstUnlawful h x count r)))
-  Recording h letter count (Planned end letters) h' = ⊥
+  Recording h letter count (Ok (Some schedule)) h' = ⊥
 
   -- add: the stop is put last
   abbrev pub Adding : History → Stop → Answer → History → Type 0
-  Adding h stop Done h' = (length h.stops < 16) × InRange stop × (h' ≡ record { log = h.log; stops = h.stops ++ stop ∷ [] })
-  Adding h stop (Refused r) h' = (Refuses h h' 4 r × (length h.stops ≡ 16)) ⊎ (Refuses h h' 5 r × (length h.stops < 16) × (InRange stop → ⊥))
-  Adding h stop (Planned end letters) h' = ⊥
+  Adding h stop (Ok None) h' = (length h.stops < 16) × InRange stop × (h' ≡ record { log = h.log; stops = h.stops ++ stop ∷ [] })
+  Adding h stop (Err r) h' = (Refuses h h' 4 r × (length h.stops ≡ 16)) ⊎ (Refuses h h' 5 r × (length h.stops < 16) × (InRange stop → ⊥))
+  Adding h stop (Ok (Some schedule)) h' = ⊥
 
   -- drop: the last stop is taken off
   abbrev pub Dropping : History → Answer → History → Type 0
-  Dropping h Done h' = (0 < length h.stops) × (h' ≡ record { log = h.log; stops = take (length h.stops - 1) h.stops })
-  Dropping h (Refused r) h' = Refuses h h' 6 r × (h.stops ≡ [])
-  Dropping h (Planned end letters) h' = ⊥
+  Dropping h (Ok None) h' = (0 < length h.stops) × (h' ≡ record { log = h.log; stops = take (length h.stops - 1) h.stops })
+  Dropping h (Err r) h' = Refuses h h' 6 r × (h.stops ≡ [])
+  Dropping h (Ok (Some schedule)) h' = ⊥
 
   -- the needed number is over the width at a quarter that counts
   abbrev pub Crowded : History → ℕ → Type 0
@@ -93,12 +95,12 @@ module _ {R : Type 0} (names : R → ℕ → Duty → Option Violation) (after :
 
   -- plan: the first of 6 to 9 that applies; else an end, 10 or 11
   abbrev pub Planning : History → ℕ → ℕ → ℕ → Answer → History → Type 0
-  Planning h labels predecessors output Done h' = ⊥
-  Planning h labels predecessors output (Refused r) h' =
+  Planning h labels predecessors output (Ok None) h' = ⊥
+  Planning h labels predecessors output (Err r) h' =
       (h' ≡ h) × (Unready h.stops (now_of h) labels predecessors output r
-      ⊎ (Ready h.stops (now_of h) labels predecessors output × ((number r ≡ 10) ⊎ (number r ≡ 11)) × Exactly h (width labels) (Refused r)))
-  Planning h labels predecessors output (Planned end letters) h' =
-      (h' ≡ h) × Ready h.stops (now_of h) labels predecessors output × PlannedEnd h end (vec_items letters) × Exactly h (width labels) (Planned end letters)
+      ⊎ (Ready h.stops (now_of h) labels predecessors output × ((number r ≡ 10) ⊎ (number r ≡ 11)) × Exactly h (width labels) (Err r)))
+  Planning h labels predecessors output (Ok (Some schedule)) h' =
+      (h' ≡ h) × Ready h.stops (now_of h) labels predecessors output × PlannedEnd h schedule.end (vec_items schedule.letters) × Exactly h (width labels) (Ok (Some schedule))
 
   abbrev pub Answers : History → Call → Answer → History → Type 0
   Answers h (Record letter count) a h' = Recording h letter count a h'

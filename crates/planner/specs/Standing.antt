@@ -3,20 +3,18 @@
 --   AnswersPlan .. a   the answer to a plan, by the card and the tour
 --   AnswersCall .. a   whatever history they stand for, the answer fits it, and they stand for the history after it
 --   answer_of r        done, or refused
-use Rattle.std.specs.Prelude.{◌≡◌, ℕ, ◌-◌, ◌⊎◌, List, length, take, Ok, Err, vec_items, Option, Result}
+use Rattle.std.specs.Prelude.{◌≡◌, ℕ, ◌-◌, ◌⊎◌, List, length, take, Some, None, Ok, Err, vec_items, Option, Result}
 use Rattle.duty.specs.declared.Duty.{Duty}
 use Rattle.rules.specs.declared.breach.Violation.{Violation}
 use Rattle.rules.specs.declared.refusal.Refusal.{Refusal}
 use Rattle.rules.specs.Refusals.{number}
 use Rattle.rules.specs.Walk.{led, Allowed}
 use Rattle.planning.specs.declared.Stop.{Stop}
-use Rattle.planner.specs.declared.call.Answer.{Answer}
-use Rattle.planner.specs.declared.call.Answer.TheVariants.{Done, Refused, Planned}
 use Rattle.planner.specs.declared.call.Call.{Call}
 use Rattle.planner.specs.History.{History, width, span}
 use Rattle.planner.specs.Outcome.{NoneEnds, Crowds}
 use Rattle.planner.specs.Plans.{Unready, Ready, Schedule}
-use Rattle.planner.specs.Promise.{Answers}
+use Rattle.planner.specs.Promise.{Answer, Answers}
 
 pub record StandsFor {R : Type 0} (names : R → ℕ → Duty → Option Violation) (after : R → ℕ → Duty → R) (opened row : R) (now : ℕ) (stops : List Stop) (h : History) : Type 0 where
   pub state : row ≡ led after opened 0 h.log
@@ -25,16 +23,16 @@ pub record StandsFor {R : Type 0} (names : R → ℕ → Duty → Option Violati
   pub tour : stops ≡ h.stops
 
 abbrev pub answer_of : Result (Unit {0}) Refusal → Answer
-answer_of (Ok u) = Done
-answer_of (Err why) = Refused why
+answer_of (Ok u) = Ok None
+answer_of (Err why) = Err why
 
 abbrev pub AnswersPlan : {R : Type 0} → (R → ℕ → Duty → Option Violation) → (R → ℕ → Duty → R) → (R → R → Type 0) → List Stop → R → ℕ → ℕ → ℕ → ℕ → Answer → Type 0
-AnswersPlan names after better stops start now labels predecessors output Done = ⊥
-AnswersPlan names after better stops start now labels predecessors output (Refused why) =
+AnswersPlan names after better stops start now labels predecessors output (Ok None) = ⊥
+AnswersPlan names after better stops start now labels predecessors output (Err why) =
     Unready stops now labels predecessors output why
     ⊎ (Ready stops now labels predecessors output × (((number why ≡ 10) × NoneEnds names after better stops start now (width labels) (span stops now)) ⊎ ((number why ≡ 11) × Crowds names after better stops start now (width labels) (span stops now))))
-AnswersPlan names after better stops start now labels predecessors output (Planned end letters) =
-    Ready stops now labels predecessors output × ((out : List ℕ) × Schedule names after better stops start now (width labels) out end × (vec_items letters ≡ take (end - now) out))
+AnswersPlan names after better stops start now labels predecessors output (Ok (Some s)) =
+    Ready stops now labels predecessors output × ((out : List ℕ) × Schedule names after better stops start now (width labels) out s.end × (vec_items s.letters ≡ take (s.end - now) out))
 
 abbrev pub AnswersCall : {R : Type 0} → (R → ℕ → Duty → Option Violation) → (R → ℕ → Duty → R) → (R → R → Type 0) → (R → Type 0) → (R → R) → (R → List Duty → Type 0) → R → ℕ → List Stop → Call → Answer → R → ℕ → List Stop → Type 0
 AnswersCall {R} names after better sound opened lawful row now stops call a row' now' stops' =

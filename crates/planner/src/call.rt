@@ -22,10 +22,12 @@ pub enum Call {
     },
 }
 
-// What a call answers: done, the refusal, or the end of a plan with the letters of its schedule.
+// What a plan gives: its end, and the letters of its quarters.
 #[derive(Drop)]
-pub enum Answer {
-    Done,
-    Refused(Refusal),
-    Planned { end: usize, letters: Vec<u8> },
+pub struct Schedule {
+    pub end: usize,
+    pub letters: Vec<u8>,
 }
+
+// What a call answers: its refusal; or it is done, and a plan gives its schedule.
+pub type Answer = Result<Option<Schedule>, Refusal>;

@@ -5,7 +5,7 @@ ghost use Rattle.planner.specs.Promise.{Kept};
 ghost use Rattle.planner.specs.Standing.{AnswersPlan, AnswersCall, answer_of};
 ghost use Rattle.planner.specs.Toured.{stops_of};
 
-use crate::call::{Answer, Call};
+use crate::call::{Answer, Call, Schedule};
 use crate::card::DriverCard;
 use crate::plan::{plan, ready};
 use crate::search::first_label;
@@ -15,14 +15,11 @@ use rules::book::RuleBook;
 use rules::refusal::Refusal;
 use std::alloc::{AllocError, Global};
 
-// What a call answers that is done or refused.
+// What a call answers that plans nothing.
 fn done_or_refused(res: Result<(), Refusal>) -> Answer
     ensures { result ≡ answer_of res }
 {
-    match res {
-        Ok(()) => Answer::Done,
-        Err(why) => Answer::Refused(why),
-    }
+    res.map(|()| None)
 }
 
 // A sheet of so many labels.
@@ -40,26 +37,6 @@ fn sheet_of<R: Copy + Drop>(
     Ok(sheet)
 }
 
-// Plans in these buffers, and keeps a copy of the letters.
-fn plan_in<B: RuleBook>(
-    heap: Global,
-    card: &DriverCard<B>,
-    tour: &Tour,
-    sheet: &mut [Label<B::Row>],
-    trail: &mut [u16],
-    output: &mut [u8],
-) -> Result<Answer, AllocError>
-    ensures { IfOk result (AnswersPlan B.RuleBook.names B.RuleBook.after B.Row.Figures.better (stops_of tour.now) (B.RuleBook.figures card.entry.now.book) card.entry.now.now (length sheet.old) (length trail.old) (length output.old)) }
-{
-    match plan(card, tour, sheet, trail, output) {
-        Ok(end) => {
-            let letters = Vec::from_slice(heap, &output[0..end - card.now()])?;
-            Ok(Answer::Planned { end, letters })
-        }
-        Err(why) => Ok(Answer::Refused(why)),
-    }
-}
-
 // Plans with buffers of these lengths, of which it makes what the search uses; nothing is made where no search is.
 fn plan_with<B: RuleBook>(
     heap: Global,
@@ -73,19 +50,25 @@ fn plan_with<B: RuleBook>(
 {
     let (width, span) = match ready(card, tour, labels, predecessors, output) {
         Ok(size) => size,
-        Err(why) => return Ok(Answer::Refused(why)),
+        Err(why) => return Ok(Err(why)),
     };
     let mut sheet = sheet_of(heap, first_label(tour.stops(), card.row()), labels)?;
     let mut trail = vec![in heap; 0u16; width * span]?;
     let mut letters = vec![in heap; 0u8; span]?;
-    plan_in(
-        heap,
+    let planned = plan(
         card,
         tour,
         sheet.as_mut_slice(),
         trail.as_mut_slice(),
         letters.as_mut_slice(),
-    )
+    );
+    match planned {
+        Ok(end) => {
+            letters.truncate(end - card.now());
+            Ok(Ok(Some(Schedule { end, letters })))
+        }
+        Err(why) => Ok(Err(why)),
+    }
 }
 
 // Makes one call.

@@ -1,5 +1,5 @@
 // The answers to a list of calls, as lines: `done`, `end,END,LETTERS`, `refused,NUMBER` or `refused,3,QUARTER,RULE,LAYER`.
-use planner::call::{Answer, Call};
+use planner::call::{Answer, Call, Schedule};
 use planner::calls::run_calls;
 use rules::book::RuleBook;
 use std::io;
@@ -7,12 +7,12 @@ use std::io;
 // Of a plan its end and the count of its letters: which of the schedules is written is free.
 fn print_answer(rt: &HostRuntime, answer: &Answer) -> io::Result<()> {
     match answer {
-        Answer::Done => println!(rt; "done"),
-        Answer::Refused(why) => println!(rt; "refused,{why}"),
-        Answer::Planned { end, letters } => {
+        Ok(None) => println!(rt; "done"),
+        Ok(Some(Schedule { end, letters })) => {
             let count = letters.len();
             println!(rt; "end,{end},{count}")
         }
+        Err(why) => println!(rt; "refused,{why}"),
     }
 }
 

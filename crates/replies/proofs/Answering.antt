@@ -3,7 +3,7 @@ use Rattle.std.proofs.Common.{◌≡◌, ℕ, ◌+◌, ◌<◌, List, ◌∷◌,
 use Rattle.std.proofs.lemmas.List.{drop_more, length-append}
 use Rattle.std.specs.Option.{option_to_list}
 use Rattle.rules.specs.declared.refusal.Refusal.{Refusal}
-use Rattle.planner.specs.declared.call.Answer.{Answer}
+use Rattle.planner.specs.Promise.{Answer}
 use Rattle.planner.specs.declared.call.Call.{Call}
 use Rattle.lines.specs.declared.line.Line.{Line}
 use Rattle.lines.specs.declared.line.Line.TheVariants as line

@@ -1,5 +1,5 @@
 -- A breach that refuses a record is the first breach of the log that it would have made.
-use Rattle.std.proofs.Common.{◌≡◌, ℕ, ◌+◌, ◌<◌, ◌≤◌, List, ◌++◌, length, take, replicate, Some, Option, sym, ap, ◌∙◌, subst, inl, inr, arith}
+use Rattle.std.proofs.Common.{◌≡◌, ℕ, ◌+◌, ◌<◌, ◌≤◌, List, ◌++◌, length, take, replicate, Some, Err, Option, sym, ap, ◌∙◌, subst, inl, inr, arith}
 use lib.Seq.{take-append-add}
 use Rattle.std.proofs.lemmas.List.{get_or-append-add, get_or-replicate, length-append, length-replicate, take-replicate}
 use Rattle.duty.specs.declared.Duty.{Duty}
@@ -17,7 +17,6 @@ use Rattle.books.specs.Broken.{Sorted}
 use Rattle.books.specs.Tied.{Tied, lawful-allowed, breached-first}
 use Rattle.planner.specs.History.{History}
 use Rattle.planner.specs.Promise.{FirstUnlawful, Recording}
-use Rattle.planner.specs.declared.call.Answer.TheVariants.{Refused}
 
 same-breach : (b c : Breach) → why.Breach b ≡ why.Breach c → b ≡ c
 same-breach b c e = cc
@@ -43,7 +42,7 @@ module _ {S : Type 0} (names : S → ℕ → Duty → Option Violation) (after :
       ∙ ap (λ y. breach_at (length log + n) (names (led after opened 0 (log ++ replicate n x)) (length log + n) y)) there
       ∙ is)
 
-  pub recorded-first : (h h' : History) (letter count : ℕ) (x : Duty) (b : Breach) → duty_of letter ≡ Some x → Recording names after better opened (Lawful set) h letter count (Refused (why.Breach b)) h' → FirstBreach set (h.log ++ replicate count x) b
+  pub recorded-first : (h h' : History) (letter count : ℕ) (x : Duty) (b : Breach) → duty_of letter ≡ Some x → Recording names after better opened (Lawful set) h letter count (Err (why.Breach b)) h' → FirstBreach set (h.log ++ replicate count x) b
   recorded-first h h' letter count x b spelt (inl one) = absurd (omega (arith, one.0.1))
   recorded-first h h' letter count x b spelt (inr (y, spelt', inl two)) = absurd (omega (arith, two.0.1))
   recorded-first h h' letter count x b spelt (inr (y, spelt', inr (refused, some, fits, first))) =

@@ -1,14 +1,12 @@
 -- Two meanings of lawful that agree on every log: what is promised under one is promised under the other.
-use Rattle.std.proofs.Common.{ℕ, List, [], ◌∷◌, ◌++◌, vec_items, Option, inl, inr}
+use Rattle.std.proofs.Common.{ℕ, List, [], ◌∷◌, ◌++◌, vec_items, Some, None, Ok, Err, Option, inl, inr}
 use Rattle.duty.specs.declared.Duty.{Duty}
 use Rattle.rules.specs.declared.breach.Violation.{Violation}
 use Rattle.rules.specs.declared.refusal.Refusal.{Refusal}
-use Rattle.planner.specs.declared.call.Answer.{Answer}
-use Rattle.planner.specs.declared.call.Answer.TheVariants.{Done, Refused, Planned}
 use Rattle.planner.specs.declared.call.Call.{Call}
 use Rattle.planner.specs.declared.call.Call.TheVariants.{Record, Add, Drop, Plan}
 use Rattle.planner.specs.History.{History, Completes, Counts}
-use Rattle.planner.specs.Promise.{FirstUnlawful, Recording, Crowded, PlannedEnd, Exactly, Planning, Answers, Kept}
+use Rattle.planner.specs.Promise.{Answer, FirstUnlawful, Recording, Crowded, PlannedEnd, Exactly, Planning, Answers, Kept}
 
 -- every log that is lawful in the first sense is lawful in the second
 abbrev Within : (List Duty → Type 0) → (List Duty → Type 0) → Type 0
@@ -47,17 +45,17 @@ module _ {R : Type 0} (names : R → ℕ → Duty → Option Violation) (after :
         record { n = f.n; within = f.within; before = to _ f.before; broken = λ l. f.broken (from _ l); named = f.named }
 
     recording : (h : History) (letter count : ℕ) (a : Answer) (h' : History) → Recording names after better opened A h letter count a h' → Recording names after better opened B h letter count a h'
-    recording h letter count Done h' (x, spelt, some, fits, lawfully, next) = (x, spelt, some, fits, to _ lawfully, next)
-    recording h letter count (Refused r) h' (inl one) = inl one
-    recording h letter count (Refused r) h' (inr (x, spelt, inl two)) = inr (x, spelt, inl two)
-    recording h letter count (Refused r) h' (inr (x, spelt, inr (refused, some, fits, first))) = inr (x, spelt, inr (refused, some, fits, first_unlawful h x count r first))
-    recording h letter count (Planned end letters) h' k = k
+    recording h letter count (Ok None) h' (x, spelt, some, fits, lawfully, next) = (x, spelt, some, fits, to _ lawfully, next)
+    recording h letter count (Err r) h' (inl one) = inl one
+    recording h letter count (Err r) h' (inr (x, spelt, inl two)) = inr (x, spelt, inl two)
+    recording h letter count (Err r) h' (inr (x, spelt, inr (refused, some, fits, first))) = inr (x, spelt, inr (refused, some, fits, first_unlawful h x count r first))
+    recording h letter count (Ok (Some s)) h' k = k
 
     planning : (h : History) (labels predecessors output : ℕ) (a : Answer) (h' : History) → Planning names after better opened A h labels predecessors output a h' → Planning names after better opened B h labels predecessors output a h'
-    planning h labels predecessors output Done h' k = k
-    planning h labels predecessors output (Refused r) h' (same, inl unready) = (same, inl unready)
-    planning h labels predecessors output (Refused r) h' (same, inr (ready, number, x)) = (same, inr (ready, number, exactly h _ (Refused r) x))
-    planning h labels predecessors output (Planned end letters) h' (same, ready, p, x) = (same, ready, planned_end h end (vec_items letters) p, exactly h _ (Planned end letters) x)
+    planning h labels predecessors output (Ok None) h' k = k
+    planning h labels predecessors output (Err r) h' (same, inl unready) = (same, inl unready)
+    planning h labels predecessors output (Err r) h' (same, inr (ready, number, x)) = (same, inr (ready, number, exactly h _ (Err r) x))
+    planning h labels predecessors output (Ok (Some s)) h' (same, ready, p, x) = (same, ready, planned_end h s.end (vec_items s.letters) p, exactly h _ (Ok (Some s)) x)
 
     answers_so : (h : History) (call : Call) (a : Answer) (h' : History) → Answers names after better opened A h call a h' → Answers names after better opened B h call a h'
     answers_so h (Record letter count) a h' k = recording h letter count a h' k

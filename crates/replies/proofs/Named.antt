@@ -10,10 +10,9 @@ use Rattle.books.specs.Piles.{opened_us, opened_eu}
 use Rattle.books.proofs.EuSets.{EuLawful, eu_opened, eu-piled}
 use Rattle.books.proofs.Sorting.{ascending_sorted}
 use Rattle.books.proofs.UsSets.{UsLawful, us_opened, us_piled}
-use Rattle.planner.specs.declared.call.Answer.{Answer}
 use Rattle.planner.specs.declared.call.Call.{Call}
 use Rattle.planner.specs.History.{fresh}
-use Rattle.planner.specs.Promise.{Kept}
+use Rattle.planner.specs.Promise.{Answer, Kept}
 use Rattle.replies.specs.Promised.{BreachesFirst}
 use Rattle.replies.proofs.Breaches.{recorded-first}
 use Rattle.replies.proofs.Meanings.{kept_so}

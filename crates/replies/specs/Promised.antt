@@ -20,12 +20,10 @@ use Rattle.books.specs.declared.sets.RuleSet.TheVariants as set
 use Rattle.books.specs.Machines.{us_names, us_after, us_better, eu_names, eu_after, eu_better}
 use Rattle.books.specs.Names.{sentences}
 use Rattle.books.specs.Piles.{opened_us, opened_eu}
-use Rattle.planner.specs.declared.call.Answer.{Answer}
-use Rattle.planner.specs.declared.call.Answer.TheVariants.{Refused}
 use Rattle.planner.specs.declared.call.Call.{Call}
 use Rattle.planner.specs.declared.call.Call.TheVariants.{Record}
 use Rattle.planner.specs.History.{History, fresh}
-use Rattle.planner.specs.Promise.{Answers, Kept}
+use Rattle.planner.specs.Promise.{Answer, Answers, Kept}
 use Rattle.lines.specs.declared.line.Line.{Line}
 use Rattle.lines.specs.Texts.{ReadFrom, set_read, calls_read}
 use Rattle.replies.specs.Replies.{Replied}
@@ -42,7 +40,7 @@ AnswersUnder set.Eu h call a h' = Answers eu_names eu_after eu_better opened_eu 
 
 abbrev pub BreachesFirst : Type 0
 BreachesFirst =
-    (s : RuleSet) (h h' : History) (letter count : ℕ) (x : Duty) (b : Breach) → duty_of letter ≡ Some x → AnswersUnder s h (Record letter count) (Refused (why.Breach b)) h' → FirstBreach (sentences s) (h.log ++ replicate count x) b
+    (s : RuleSet) (h h' : History) (letter count : ℕ) (x : Duty) (b : Breach) → duty_of letter ≡ Some x → AnswersUnder s h (Record letter count) (Err (why.Breach b)) h' → FirstBreach (sentences s) (h.log ++ replicate count x) b
 
 pub record Reply (text reply : List ℕ) : Type 0 where
   pub readings : List (Result Line Refusal)

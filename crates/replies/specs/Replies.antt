@@ -4,7 +4,7 @@
 --   Replied n rs as reply          the reply to the lines that say rs, from line n on, by the answers as, each to its call
 use Rattle.std.specs.Prelude.{◌≡◌, ℕ, ◌+◌, List, [], ◌∷◌, ◌++◌, Ok, Err, Result}
 use Rattle.rules.specs.declared.refusal.Refusal.{Refusal}
-use Rattle.planner.specs.declared.call.Answer.{Answer}
+use Rattle.planner.specs.Promise.{Answer}
 use Rattle.lines.specs.declared.line.Line.{Line}
 use Rattle.lines.specs.declared.line.Line.TheVariants as line
 use Rattle.replies.specs.Spelled.{refused_line, AnswerLines}

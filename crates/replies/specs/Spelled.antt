@@ -3,12 +3,11 @@
 --   refused_line n why              the line n was refused, with the refusal's number, and for a breach its quarter, rule and layer
 --   PlanLines n end letters lines   the lines of a plan that line n asks for: its runs and its end
 --   AnswerLines n a lines           the lines that answer line n, where its call is answered by a
-use Rattle.std.specs.Prelude.{◌≡◌, ℕ, ◌-◌, List, [], ◌∷◌, ◌++◌, length, vec_items, codes, decimal}
+use Rattle.std.specs.Prelude.{◌≡◌, ℕ, ◌-◌, List, [], ◌∷◌, ◌++◌, length, Some, None, Ok, Err, vec_items, codes, decimal}
 use Rattle.std.specs.List.{flat_map}
 use Rattle.rules.specs.declared.refusal.Refusal.{Refusal}
 use Rattle.rules.specs.Refusals.{spelled}
-use Rattle.planner.specs.declared.call.Answer.{Answer}
-use Rattle.planner.specs.declared.call.Answer.TheVariants.{Done, Refused, Planned}
+use Rattle.planner.specs.Promise.{Answer}
 use Rattle.replies.specs.declared.runs.Run.{Run}
 use Rattle.replies.specs.Schedules.{RunsFrom}
 
@@ -26,6 +25,6 @@ PlanLines n end letters lines =
     × (lines ≡ (codes "plan," ++ (decimal n ++ 10 ∷ [])) ++ (flat_map run_line runs ++ (codes "end," ++ (decimal end ++ 10 ∷ []))))
 
 abbrev pub AnswerLines : ℕ → Answer → List ℕ → Type 0
-AnswerLines n Done lines = lines ≡ []
-AnswerLines n (Refused r) lines = lines ≡ refused_line n r
-AnswerLines n (Planned end letters) lines = PlanLines n end (vec_items letters) lines
+AnswerLines n (Ok None) lines = lines ≡ []
+AnswerLines n (Ok (Some s)) lines = PlanLines n s.end (vec_items s.letters) lines
+AnswerLines n (Err r) lines = lines ≡ refused_line n r

@@ -1,9 +1,8 @@
 // The reply to a whole text.
 ghost use Rattle.std.specs.Prelude.{List, IfOk};
 ghost use Rattle.lines.specs.Texts.{calls_read};
-ghost use Rattle.planner.specs.declared.call.Answer.{Answer as Given};
 ghost use Rattle.planner.specs.History.{fresh};
-ghost use Rattle.planner.specs.Promise.{Kept};
+ghost use Rattle.planner.specs.Promise.{Answer as Given, Kept};
 ghost use Rattle.replies.specs.Promised.{KeptUnder, Reply, Answered};
 ghost use Rattle.replies.specs.Replies.{Replied};
 

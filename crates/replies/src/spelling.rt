@@ -4,7 +4,7 @@ ghost use Rattle.std.specs.List.{flat_map};
 ghost use Rattle.replies.specs.Spelled.{run_line, refused_line, PlanLines, AnswerLines};
 
 use crate::runs::{Run, runs_of};
-use planner::call::Answer;
+use planner::call::{Answer, Schedule};
 use rules::refusal::Refusal;
 use std::alloc::{AllocError, Global};
 
@@ -85,10 +85,10 @@ pub(crate) fn write_answer(
     ensures { OnOk result (((lines : List ℕ) × AnswerLines place answer.now lines × (reply.new.items ≡ reply.old.items ++ lines))) }
 {
     match answer {
-        Answer::Done => Ok(()),
-        Answer::Refused(why) => write_refusal(heap, reply, place, *why),
-        Answer::Planned { end, letters } => {
+        Ok(None) => Ok(()),
+        Ok(Some(Schedule { end, letters })) => {
             write_plan(heap, reply, place, *end, letters.as_slice())
         }
+        Err(why) => write_refusal(heap, reply, place, *why),
     }
 }

@@ -1,7 +1,6 @@
 use Rattle.std.proofs.Common.{List, ◌++◌, drop, vec_items}
-use Rattle.planner.specs.declared.call.Answer.{Answer}
 use Rattle.planner.specs.History.{History, fresh}
-use Rattle.planner.specs.Promise.{Kept}
+use Rattle.planner.specs.Promise.{Answer, Kept}
 use Rattle.planner.specs.Standing.{StandsFor}
 use Rattle.planner.specs.Toured.{stops_of}
 use Rattle.planner.proofs.calls.run_calls.Given as goal

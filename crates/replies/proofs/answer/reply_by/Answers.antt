@@ -2,7 +2,7 @@ use Rattle.std.proofs.Common.{List, IfOk, vec_items, sym, subst, lit≤}
 use Rattle.std.proofs.lemmas.Result.{IfOk-weaker}
 use Rattle.books.specs.Piles.{us_row, eu_row}
 use Rattle.lines.specs.Texts.{calls_read}
-use Rattle.planner.specs.declared.call.Answer.{Answer}
+use Rattle.planner.specs.Promise.{Answer}
 use Rattle.replies.specs.Promised.{KeptUnder}
 use Rattle.replies.specs.Replies.{Replied}
 use Rattle.replies.proofs.Named.{us_kept, eu-kept}
