@@ -2,35 +2,31 @@
 #![tactic(auto)]
 
 use books::sets::eu;
+use lines::reading::plan_call;
 use planner::call::{Answer, Call, Schedule};
 use planner::calls::run_calls;
+use replies::runs::{Run, runs_of};
 use std::io;
 
-// Prints each run of the letters: its first quarter, its letter and its length.
-fn print_runs(rt: &HostRuntime, letters: &[u8]) -> io::Result<()> {
-    let mut first = 0;
-    for (i, letter) in letters.iter().enumerate() {
-        let ends = match letters.get(i + 1) {
-            Some(next) => next != letter,
-            None => true,
-        };
-        if ends {
-            let count = (i + 1).saturating_sub(first);
-            let shown = char::from(*letter);
-            println!(rt; "{first},{shown},{count}")?;
-            first = i + 1;
-        }
+// Prints each run of the letters, its first quarter, its letter and its length, and then the end.
+fn print_schedule(rt: &HostRuntime, schedule: &Schedule) -> io::Result<()> {
+    let Schedule { end, letters } = schedule;
+    for run in runs_of(rt.alloc(), *end, letters.as_slice())?.iter() {
+        let Run {
+            first,
+            letter,
+            count,
+        } = *run;
+        let letter = char::from(letter);
+        println!(rt; "{first},{letter},{count}")?;
     }
-    Ok(())
+    println!(rt; "end,{end}")
 }
 
 fn print_answer(rt: &HostRuntime, answer: &Answer) -> io::Result<()> {
     match answer {
         Ok(None) => Ok(()),
-        Ok(Some(Schedule { end, letters })) => {
-            print_runs(rt, letters.as_slice())?;
-            println!(rt; "end,{end}")
-        }
+        Ok(Some(schedule)) => print_schedule(rt, schedule),
         Err(why) => println!(rt; "refused,{why}"),
     }
 }
@@ -43,11 +39,7 @@ fn main(rt: HostRuntime) -> io::Result<()> {
             opens: 0,
             closes: 39,
         },
-        Call::Plan {
-            labels: 144,
-            predecessors: 18432,
-            output: 384,
-        },
+        plan_call(),
     ];
     for answer in run_calls(rt.alloc(), &eu(), &calls)?.iter() {
         print_answer(&rt, answer)?;

@@ -3,8 +3,8 @@
 --   set_read rs          the rule set: that of the first line, or us7 where that names none
 --   call_read r          the call that a line asks for, if any
 --   calls_read rs        the calls, in the order of their lines
-use Rattle.std.specs.Prelude.{◌≡◌, ℕ, ◌+◌, ◌<◌, List, [], ◌∷◌, ◌++◌, length, Some, None, Ok, Err, Option, Result}
-use Rattle.std.specs.Option.{option_to_list}
+use Rattle.std.specs.Prelude.{◌≡◌, ℕ, ◌+◌, ◌<◌, List, [], ◌∷◌, length, Some, None, Ok, Err, Option, Result}
+use Rattle.std.specs.List.{filter_map}
 use Rattle.rules.specs.declared.refusal.Refusal.{Refusal}
 use Rattle.books.specs.declared.sets.RuleSet.{RuleSet}
 use Rattle.books.specs.declared.sets.RuleSet.TheVariants as set
@@ -35,5 +35,4 @@ call_read (Ok (line.Call call)) = Some call
 call_read (Err why) = None
 
 abbrev pub calls_read : List (Result Line Refusal) → List Call
-calls_read [] = []
-calls_read (r ∷ rs) = option_to_list (call_read r) ++ calls_read rs
+calls_read = filter_map call_read

@@ -10,7 +10,7 @@ use planner::call::Call;
 use rules::refusal::Refusal;
 
 // The call that plans, with the lengths of its buffers: the sheet of labels, the trail and the output.
-fn plan_call() -> Call
+pub fn plan_call() -> Call
     ensures { result ≡ plan_call }
 {
     Call::Plan {
@@ -80,6 +80,7 @@ fn read_rules(place: usize, name: &[u8]) -> Result<Line, Refusal>
 pub fn read_line(place: usize, line: &[u8]) -> Result<Line, Refusal>
     ensures { Reads place line.now result }
 {
+    // Words are compared whole: a `match` asks a proof for each byte at which a line can leave a word.
     if line == b"drop".as_slice() {
         return Ok(Line::Call(Call::Drop));
     }

@@ -52,11 +52,8 @@ fn call_of(reading: Result<Line, Refusal>) -> Option<Call>
 pub fn calls_of(heap: Global, readings: &[Result<Line, Refusal>]) -> Result<Vec<Call>, AllocError>
     ensures { IfOk result (λ calls. calls.items ≡ calls_read readings.now) }
 {
-    let mut calls = Vec::new(heap);
-    for reading in readings {
-        if let Some(call) = call_of(*reading) {
-            calls.push(call)?;
-        }
-    }
-    Ok(calls)
+    readings
+        .iter()
+        .filter_map(|reading| call_of(*reading))
+        .collect(heap)
 }

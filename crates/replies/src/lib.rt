@@ -4,5 +4,5 @@
 pub mod answer;
 pub mod printing;
 mod reply;
-mod runs;
+pub mod runs;
 mod spelling;

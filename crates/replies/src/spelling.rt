@@ -1,7 +1,7 @@
 // Answers spelled as the lines of a reply.
 ghost use Rattle.std.specs.Prelude.{◌≡◌, ℕ, ◌≤◌, List, ◌++◌, length, IfOk, string_bytes, vec_items, OnOk};
 ghost use Rattle.std.specs.List.{flat_map};
-ghost use Rattle.std.specs.Option.{option_to_list};
+ghost use Rattle.std.specs.Option.{option_len};
 ghost use Rattle.lines.specs.Texts.{call_read};
 ghost use Rattle.replies.specs.Replies.{LineReplied};
 ghost use Rattle.replies.specs.Spelled.{run_line, refused_line, PlanLines, AnswerLines};
@@ -27,8 +27,7 @@ pub(crate) struct Reply {
 }
 
 impl Reply {
-    // Writes a run's line: its first quarter, its letter and its length. The letter is a byte, of which a text would spell one over
-    // 127 as two.
+    // Writes a run's line: its first quarter, its letter and its length. The letter goes as a byte: printed, one over 127 would be two.
     fn write_run(&mut self, run: Run) -> Result<(), AllocError>
         ensures { OnOk result (self.new.bytes.items ≡ self.old.bytes.items ++ run_line run) }
     {
@@ -96,7 +95,7 @@ impl Reply {
         reading: Result<Line, Refusal>,
         answers: &'a [Answer],
     ) -> Result<&'a [Answer], AllocError>
-        requires { length (option_to_list (call_read reading)) ≤ length answers.now }
+        requires { option_len (call_read reading) ≤ length answers.now }
         ensures { IfOk result (λ left. ((lines : List ℕ) × LineReplied place reading answers.now lines left.now × (self.new.bytes.items ≡ self.old.bytes.items ++ lines))) }
     {
         match reading {
