@@ -1,5 +1,4 @@
--- The invariant of the search's loop, and what it shows when the loop ends. The section's hypotheses are those of planning's
--- proofs/Search.antt: a book with its laws, a sound start, and a tour of stops that each have a service.
+-- The invariant of the search's loop, and what it shows when the loop ends, in a setting (planning's proofs/Laws.antt).
 --   Going .. k trail F t      F are the right labels of the quarter now + t, at most k; the trail leads back from each of them;
 --                             no letters have served the tour yet; and at no earlier quarter were more than k labels needed
 --   going-alive, going_dead   at the start, whatever the trail
@@ -8,22 +7,22 @@
 --   going-crowded             that cover is more than k
 --   going-ends, going-last    a label serves the tour at its last work; or none does, and the time is over
 --   none_now                  nothing ends by `now`
-use Rattle.std.proofs.Common.{◌≡◌, ℕ, suc, ◌+◌, ◌*◌, ◌<◌, ◌≤◌, true, false, List, [], ◌∷◌, ◌++◌, length, get_or, Some, None, Option, sym, refl, ap, ◌∙◌, subst, inl, inr, arith}
+use Rattle.std.proofs.Common.{◌≡◌, ℕ, suc, ◌+◌, ◌*◌, ◌<◌, ◌≤◌, true, false, List, [], ◌∷◌, ◌++◌, length, get_or, Some, Option, sym, refl, ap, ◌∙◌, subst, inl, inr, arith}
 use Rattle.std.proofs.lemmas.Bool.{cases_lt}
 use Rattle.duty.specs.declared.Duty.{Duty}
-use Rattle.duty.specs.declared.Duty.TheVariants.{Rest, Drive}
 use Rattle.rules.specs.declared.breach.Violation.{Violation}
 use Rattle.frontier.specs.Lists.{In}
 use Rattle.frontier.specs.Cover.{Apart, SmallestCover}
 use Rattle.planning.specs.declared.Label.{Label}
 use Rattle.planning.specs.declared.Stop.{Stop}
-use Rattle.planning.specs.Labels.{stop_at, Alive, Covers, Reached}
+use Rattle.planning.specs.Labels.{Alive, Covers, Reached}
 use Rattle.planning.specs.Moves.{label_at, move, serves_all}
 use Rattle.planning.specs.Plain.{Plainly}
 use Rattle.planning.proofs.Starts.{Sensible, start_reached, reached-sensible}
 use Rattle.planning.proofs.Smallest.{Lone}
 use Rattle.planning.proofs.Members.{covered-at, apart-lone}
 use Rattle.planning.proofs.Right.{Right, Made, Kept}
+use Rattle.planning.proofs.Laws.{Setting}
 use Rattle.planning.proofs.Search.{append, finish, plain_covers, covers_plain, reached_sound, start_dead, start_alive, next_right, needed-right, no_end_now, no_end_next}
 use Rattle.planner.specs.Trail.{entry, Path}
 use Rattle.planner.specs.Candidates.{layer}
@@ -38,22 +37,12 @@ pub record Going {R : Type 0} (names : R → ℕ → Duty → Option Violation) 
   pub unended : Unended names after stops start now (now + t)
   pub needs : (u : ℕ) → u < t → Few names after better stops start now k (now + u)
 
-module _ {R : Type 0} (names : R → ℕ → Duty → Option Violation) (after : R → ℕ → Duty → R) (better : R → R → Type 0) (sound : R → Type 0) (stops : List Stop) (start : R) (now : ℕ)
-    (reflexive : (s : R) → better s s)
-    (transitive : (s t u : R) → better s t → better t u → better s u)
-    (rests : (s : R) (q : ℕ) → sound s → q < 2688 → names s q Rest ≡ None)
-    (keeps : (a b : R) (q : ℕ) (x : Duty) → sound a → sound b → q < 2688 → better a b → names b q x ≡ None → (names a q x ≡ None) × better (after a q x) (after b q x))
-    (relieves : (s : R) (q : ℕ) → sound s → q < 2688 → names s q Drive ≡ None → better (after s q Rest) (after s q Drive))
-    (endures : (s : R) (q : ℕ) (x : Duty) → sound s → sound (after s q x))
-    (start-sound : sound start)
-    (serviced : (i : ℕ) → i < length stops → 0 < (stop_at stops i).service)
-    (some-stop : 0 < length stops)
-    (k : ℕ) where
+module _ {R : Type 0} {names : R → ℕ → Duty → Option Violation} {after : R → ℕ → Duty → R} {better : R → R → Type 0} {sound : R → Type 0} {stops : List Stop} {start : R} (set : Setting names after better sound stops start) (now k : ℕ) where
   abbrev RightAt : ℕ → List (Label R) → Type 0
   RightAt = Right names after better stops start now
 
   unended_now : Unended names after stops start now (now + 0)
-  unended_now ls allowed serves h = no_end_now names after better sound stops start now reflexive transitive rests keeps relieves endures start-sound serviced some-stop ls allowed serves (omega arith)
+  unended_now ls allowed serves h = no_end_now set now ls allowed serves (omega arith)
 
   pub none_now : NoneEnds names after better stops start now k 0
   none_now = record { none = unended_now; few = λ u h. absurd (omega arith) }
@@ -64,10 +53,10 @@ module _ {R : Type 0} (names : R → ℕ → Duty → Option Violation) (after :
       let here : now ≡ now + 0 = omega arith in
       record {
         few = omega arith;
-        right = subst (λ q. RightAt q (first ∷ [])) here (start_alive names after better sound stops start now reflexive transitive rests keeps relieves endures start-sound serviced some-stop f alive);
+        right = subst (λ q. RightAt q (first ∷ [])) here (start_alive set now f alive);
         paths = λ j d h.
             let z : 0 ≡ j = omega arith in
-            ([], refl, subst (λ i. Reached names after stops start now [] (get_or (first ∷ []) i d)) z (start_reached names after stops start now serviced f some-stop));
+            ([], refl, subst (λ i. Reached names after stops start now [] (get_or (first ∷ []) i d)) z (start_reached names after stops start now set.serviced f set.some-stop));
         unended = unended_now;
         needs = λ u h. absurd (omega arith);
       }
@@ -77,17 +66,17 @@ module _ {R : Type 0} (names : R → ℕ → Duty → Option Violation) (after :
       let here : now ≡ now + 0 = omega arith in
       record {
         few = omega arith;
-        right = subst (λ q. RightAt q []) here (start_dead names after better sound stops start now reflexive transitive rests keeps relieves endures start-sound serviced some-stop f dead);
+        right = subst (λ q. RightAt q []) here (start_dead set now f dead);
         paths = λ j d h. absurd (omega arith);
         unended = unended_now;
         needs = λ u h. absurd (omega arith);
       }
 
-  module _ (trail : List ℕ) (F : List (Label R)) (t : ℕ) (going : Going names after better stops start now k trail F t) where
+  module _ {trail : List ℕ} {F : List (Label R)} {t : ℕ} (going : Going names after better stops start now k trail F t) where
     pub going_sound : (j : ℕ) (d : Label R) → j < length F → sound (get_or F j d).row
     going_sound j d h =
         let (ls, p, r) = going.paths j d h in
-        reached_sound names after better sound stops start now reflexive transitive rests keeps relieves endures start-sound serviced some-stop ls (get_or F j d) r
+        reached_sound set now ls (get_or F j d) r
 
     -- as many as F's labels are needed now, and no more than k were needed before
     needs_now : (u : ℕ) → u < t + 1 → Few names after better stops start now k (now + u)
@@ -97,14 +86,14 @@ module _ {R : Type 0} (names : R → ℕ → Duty → Option Violation) (after :
           | inr ge ↦
               let z : t ≡ u = omega arith in
               subst (λ v. Few names after better stops start now k (now + v)) z
-              (length F, needed-right names after better sound stops start now reflexive transitive rests keeps relieves endures start-sound serviced some-stop (now + t) F going.right, going.few)
+              (length F, needed-right set now (now + t) F going.right, going.few)
         ]
 
     pub going-ends : (span j : ℕ) (d : Label R) → t < span → j < length F → serves_all names stops (now + t) (get_or F j d) ≡ true → Ends names after better stops start now k span trail t j
     going-ends span j d within h last =
         let (ls, p, r) = going.paths j d h in
         let there : now + t ≡ now + length ls = ap (λ n. now + n) (sym (path-length trail k t j ls p)) in
-        let (allowed, serves) = finish names after stops start now serviced ls (get_or F j d) r (subst (λ q. serves_all names stops q (get_or F j d) ≡ true) there last) in
+        let (allowed, serves) = finish names after stops start now set.serviced ls (get_or F j d) r (subst (λ q. serves_all names stops q (get_or F j d) ≡ true) there last) in
         record {
           within = within;
           place = omega (arith, going.few);
@@ -120,7 +109,7 @@ module _ {R : Type 0} (names : R → ℕ → Duty → Option Violation) (after :
       unended_next : Unended names after stops start now (now + (t + 1))
       unended_next ls allowed serves h =
           elim (cases_lt (now + t) (now + length ls)) [
-            | inl lt ↦ no_end_next names after better sound stops start now reflexive transitive rests keeps relieves endures start-sound serviced some-stop (now + t) early F going.right none ls allowed serves (omega arith)
+            | inl lt ↦ no_end_next set now (now + t) early F going.right none ls allowed serves (omega arith)
             | inr ge ↦ going.unended ls allowed serves ge
           ]
 
@@ -135,7 +124,7 @@ module _ {R : Type 0} (names : R → ℕ → Duty → Option Violation) (after :
             let (ls, p, r) = going.paths i d lt in
             let there : now + t ≡ now + length ls = ap (λ n. now + n) (sym (path-length trail k t i ls p)) in
             let m = subst (λ q. move names after stops q (entry i x) (get_or F i d) x ≡ Some (get_or G j d)) there e in
-            (i, x, ls, lt, e, alive, p, append names after stops start now serviced ls (get_or F i d) (get_or G j d) (entry i x) x r m)
+            (i, x, ls, lt, e, alive, p, append names after stops start now set.serviced ls (get_or F i d) (get_or G j d) (entry i x) x r m)
 
         made : Made names after stops (now + t) F G
         made j d h = let (i, x, ls, lt, e, alive, p, r) = comes j d h in (alive, (i, entry i x, x, lt, e))
@@ -152,7 +141,7 @@ module _ {R : Type 0} (names : R → ℕ → Duty → Option Violation) (after :
         sensible : (j : ℕ) (d : Label R) → j < length G → Sensible stops (get_or G j d)
         sensible j d h =
             let (i, x, ls, lt, e, alive, p, r) = comes j d h in
-            reached-sensible names after stops start now serviced (ls ++ x ∷ []) (get_or G j d) r
+            reached-sensible names after stops start now set.serviced (ls ++ x ∷ []) (get_or G j d) r
 
         apart : Lone (Covers better stops) G
         apart i j d hi hj differ c =
@@ -161,7 +150,7 @@ module _ {R : Type 0} (names : R → ℕ → Duty → Option Violation) (after :
         right_next : Right names after better stops start now (now + (t + 1)) G
         right_next =
             let there : now + t + 1 ≡ now + (t + 1) = omega arith in
-            subst (λ q. RightAt q G) there (next_right names after better sound stops start now reflexive transitive rests keeps relieves endures start-sound serviced some-stop (now + t) (omega arith) early F G going.right made kept apart)
+            subst (λ q. RightAt q G) there (next_right set now (now + t) (omega arith) early F G going.right made kept apart)
 
         pub going-crowded : (span : ℕ) → k < length G → t + 1 < span → Crowds names after better stops start now k span
         going-crowded span more within = record {
@@ -169,7 +158,7 @@ module _ {R : Type 0} (names : R → ℕ → Duty → Option Violation) (after :
           within = within;
           unended = unended_next;
           number = length G;
-          needed = needed-right names after better sound stops start now reflexive transitive rests keeps relieves endures start-sound serviced some-stop (now + (t + 1)) G right_next;
+          needed = needed-right set now (now + (t + 1)) G right_next;
           more = more;
         }
 

@@ -5,8 +5,7 @@ pub mod Going
 pub mod Turns
 pub mod Offers
 pub mod Expansion
-pub mod Notes
-pub mod Finding
+pub mod Filling
 pub mod Carrying
 pub mod Touring
 pub mod Spans

@@ -2,9 +2,10 @@
 --   entry-same           the entry of a label says which label and which status it came from
 --   path-length          a path from layer t has t statuses
 --   place_below          a place of layer t stands before the next layer's
+--   row_within           a layer of the span lies within the trail
 --   path_keep            a path from layer t reads the trail below t * k alone
 --   path_more            a path to the i-th label of layer t, one layer on
-use Rattle.std.proofs.Common.{◌≡◌, ℕ, zero, suc, ◌+◌, ◌*◌, ◌<◌, List, [], ◌∷◌, ◌++◌, length, get_or, refl, ap, ◌∙◌, arith}
+use Rattle.std.proofs.Common.{◌≡◌, ℕ, zero, suc, ◌+◌, ◌*◌, ◌<◌, ◌≤◌, List, [], ◌∷◌, ◌++◌, length, get_or, refl, ap, ◌∙◌, mul-le-mul_right, arith}
 use Rattle.std.proofs.lemmas.List.{length_push}
 use Rattle.duty.specs.declared.Duty.{Duty}
 use Rattle.duty.specs.declared.Duty.TheVariants.{Rest, Work, Drive}
@@ -28,6 +29,9 @@ path-length trail k (suc t) j ls (i, x, front, lt, e, p, whole) =
 
 pub place_below : (t k j : ℕ) → j < k → t * k + j < suc t * k
 place_below t k j h = omega arith
+
+pub row_within : (t span k n room : ℕ) → t < span → n ≤ k → span * k ≤ room → t * k + n ≤ room
+row_within t span k n room lt few fits = let rows : suc t * k ≤ span * k = mul-le-mul_right k lt in omega arith
 
 pub path_keep : (trail trail' : List ℕ) (k t j : ℕ) (ls : List Duty) → ((i : ℕ) → i < t * k → get_or trail' i 0 ≡ get_or trail i 0) → j < k → Path trail k t j ls → Path trail' k t j ls
 path_keep trail trail' k zero j ls same h e = e

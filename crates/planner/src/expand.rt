@@ -46,79 +46,54 @@ fn second_duty<R: Copy + Drop>(a: &Label<R>) -> Duty
     }
 }
 
-// Leaves at the front of `back` a smallest cover of what the first `count` labels move to, and says how many they are.
-pub(crate) fn expand<B: RuleBook>(
+// A smallest cover of what the labels move to, kept at the front of `places`.
+pub(crate) fn expand<'a, B: RuleBook>(
     stops: &[Stop],
     q: usize,
-    front: &[Label<B::Row>],
-    count: usize,
-    back: &mut [Label<B::Row>],
-) -> usize
-    requires within { count ≤ length front.now }
-    requires few { count ≤ 4096 }
-    requires room { 2 * count ≤ length back.old }
+    labels: &[Label<B::Row>],
+    places: &'a mut [Label<B::Row>],
+) -> &'a [Label<B::Row>]
+    requires few { length labels.now ≤ 4096 }
+    requires room { 2 * length labels.now ≤ length places.old }
     requires early { q < 2688 }
-    requires sound { (j : ℕ) (d : Label B.Row) → j < count → B.RuleBook.sound (slice_index_or front.now j d).row }
-    ensures smallest { SmallestCover (Plainly B.Row.Figures.better) (take result back.new) (layer B.RuleBook.names B.RuleBook.after stops.now q 0 (take count front.now)) }
-    ensures within { result ≤ length back.new }
-    ensures few { result ≤ 2 * count }
+    requires sound { (j : ℕ) (d : Label B.Row) → j < length labels.now → B.RuleBook.sound (slice_index_or labels.now j d).row }
+    ensures smallest { SmallestCover (Plainly B.Row.Figures.better) result.now (layer B.RuleBook.names B.RuleBook.after stops.now q 0 labels.now) }
+    ensures few { length result.now ≤ 2 * length labels.now }
 {
-    let mut frontier = Frontier::new(back);
-    for j in 0..count {
-        let label = front[j];
-        let rested = attempt::<B>(stops, q, note(j, Duty::Rest), &label, Duty::Rest);
+    let mut frontier = Frontier::new(places);
+    for (j, label) in labels.iter().enumerate() {
+        let rested = attempt::<B>(stops, q, note(j, Duty::Rest), label, Duty::Rest);
         offer_live(&mut frontier, stops, q + 1, rested);
-        let duty = second_duty(&label);
-        let moved = attempt::<B>(stops, q, note(j, duty), &label, duty);
+        let duty = second_duty(label);
+        let moved = attempt::<B>(stops, q, note(j, duty), label, duty);
         offer_live(&mut frontier, stops, q + 1, moved);
     }
-    frontier.count()
+    let kept = frontier.count();
+    places.split_at(kept).0
 }
 
 // The first of the labels from which work at quarter `q` serves the last quarter of the tour.
 pub(crate) fn find_serving<B: RuleBook>(
     stops: &[Stop],
     q: usize,
-    front: &[Label<B::Row>],
-    count: usize,
+    labels: &[Label<B::Row>],
 ) -> Option<usize>
-    requires within { count ≤ length front.now }
     requires early { q < 2688 }
-    requires sound { (j : ℕ) (d : Label B.Row) → j < count → B.RuleBook.sound (slice_index_or front.now j d).row }
-    ensures { Found (serves_all B.RuleBook.names stops.now q) front.now count result }
+    requires sound { (j : ℕ) (d : Label B.Row) → j < length labels.now → B.RuleBook.sound (slice_index_or labels.now j d).row }
+    ensures { Found (serves_all B.RuleBook.names stops.now q) labels.now (length labels.now) result }
 {
-    for j in 0..count {
-        if serves_all::<B>(stops, q, &front[j]) {
-            return Some(j);
-        }
-    }
-    None
+    labels
+        .iter()
+        .position(|label| serves_all::<B>(stops, q, label))
 }
 
-// Copies the first `n` labels.
-pub(crate) fn copy_labels<R: Copy + Drop>(front: &mut [Label<R>], back: &[Label<R>], n: usize)
-    requires { (n ≤ length front.old) × (n ≤ length back.now) }
-    ensures { take n front.new ≡ take n back.now }
+// Writes where each of the labels came from.
+pub(crate) fn note_layer<R: Copy + Drop>(trail: &mut [u16], labels: &[Label<R>])
+    requires { length labels.now ≤ length trail.old }
+    ensures { (j : ℕ) (d : Label R) → j < length labels.now → slice_index trail.new j ≡ (slice_index_or labels.now j d).from }
 {
-    for i in 0..n {
-        front[i] = back[i];
-    }
-}
-
-// Writes where each of the first `n` labels came from, from the place `base` on.
-pub(crate) fn note_layer<R: Copy + Drop>(
-    trail: &mut [u16],
-    base: usize,
-    labels: &[Label<R>],
-    n: usize,
-)
-    requires room { base + n ≤ length trail.old }
-    requires within { n ≤ length labels.now }
-    ensures before { (i : ℕ) → i < base → slice_index trail.new i ≡ slice_index trail.old i }
-    ensures noted { (j : ℕ) (d : Label R) → j < n → slice_index trail.new (base + j) ≡ (slice_index_or labels.now j d).from }
-    ensures long { length trail.new ≡ length trail.old }
-{
-    for j in 0..n {
-        trail[base + j] = labels[j].from;
+    // Over `iter_mut` a proof would lose what is written.
+    for (j, label) in labels.iter().enumerate() {
+        trail[j] = label.from;
     }
 }

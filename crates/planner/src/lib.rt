@@ -4,7 +4,6 @@
 pub mod call;
 pub mod calls;
 pub mod card;
-mod clear;
 mod expand;
 mod letters;
 mod moves;

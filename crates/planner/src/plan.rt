@@ -8,7 +8,6 @@ ghost use Rattle.planner.specs.Plans.{Solved, OutputLeft, Planned, Left, Sized};
 ghost use Rattle.planner.specs.Toured.{stops_of};
 
 use crate::card::DriverCard;
-use crate::clear::{clear_trail, fill_labels};
 use crate::letters::write_letters;
 use crate::moves::stop_at;
 use crate::search::{Outcome, first_label, search};
@@ -77,8 +76,10 @@ fn solve<B: RuleBook>(
     let (front, back) = labels.split_at_mut(width);
     let outcome = search(card, stops, front, back, trail, span);
     let answer = conclude(card, stops, outcome, trail, width, span, output);
-    fill_labels(labels, first_label(stops, card.row()));
-    clear_trail(trail);
+    let first = first_label(stops, card.row());
+    // `fill` asks that the row's clone cannot fail, which generic code does not know.
+    labels.fill_with(|| first);
+    trail.fill(0);
     answer
 }
 

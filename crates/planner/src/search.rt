@@ -6,7 +6,7 @@ ghost use Rattle.planner.specs.Candidates.{alive};
 ghost use Rattle.planner.specs.Outcome.{Searched};
 
 use crate::card::DriverCard;
-use crate::expand::{copy_labels, expand, find_serving, note_layer};
+use crate::expand::{expand, find_serving, note_layer};
 use crate::moves::{is_alive, stop_at};
 use planning::{Label, Stop};
 use rules::book::RuleBook;
@@ -74,19 +74,21 @@ pub(crate) fn search<B: RuleBook>(
     let mut count = place_first(front, stops, card.now(), card.row());
     for t in 0..span {
         let quarter = card.now() + t;
-        if let Some(place) = find_serving::<B>(stops, quarter, front, count) {
+        // `&front[0..count]` has no proof where the labels are generic.
+        let (labels, _) = front.split_at(count);
+        if let Some(place) = find_serving::<B>(stops, quarter, labels) {
             return Outcome::End(t, place);
         }
         if t + 1 == span {
             return Outcome::Nowhere;
         }
-        let kept = expand::<B>(stops, quarter, front, count, back);
-        if kept > width {
+        let next = expand::<B>(stops, quarter, labels, back);
+        if next.len() > width {
             return Outcome::Crowded;
         }
-        copy_labels(front, back, kept);
-        note_layer(trail, t * width, back, kept);
-        count = kept;
+        count = next.len();
+        front[0..count].copy_from_slice(next);
+        note_layer(&mut trail[t * width..t * width + count], next);
     }
     Outcome::Nowhere
 }

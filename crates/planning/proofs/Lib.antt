@@ -7,6 +7,7 @@ pub mod Append
 pub mod Split
 pub mod Covering
 pub mod Alive
+pub mod Laws
 pub mod Monotone
 pub mod Smallest
 pub mod Members

@@ -1,6 +1,5 @@
 use Rattle.std.proofs.Common.{◌≡◌, length, refl, ap, ◌∙◌, arith, rules}
 use Rattle.planner.proofs.Expansion.{expanded_more, expanded-all}
-use Rattle.frontier.proofs.Fronts.{front_fits}
 use Rattle.planner.proofs.expand.expand.Goals as goal
 
 pub loop-j-init : goal.loop-j-init
@@ -23,10 +22,10 @@ offer_live-requires-in-loop-j g c =
 
 pub loop-j-preserved : goal.loop-j-preserved
 loop-j-preserved g c = (
-  expanded_more g.B.RuleBook.names g.B.RuleBook.after c.args.stops.now c.args.q g.B.Row.Figures.better c.args.front.now _
-      c.loop-j.frontier c.offer_live.new.frontier c.offer_live-in-loop-j.new.frontier c.loop-j.j c.index-front-j.result
+  expanded_more g.B.RuleBook.names g.B.RuleBook.after c.args.stops.now c.args.q g.B.Row.Figures.better c.args.labels.now _
+      c.loop-j.frontier c.offer_live.new.frontier c.offer_live-in-loop-j.new.frontier c.loop-j.j c.index-labels-j.result
       c.note.result c.note-in-loop-j.result c.second_duty-duty.result c.attempt-rested.result c.attempt-moved.result
-      c.loop-j.invariant.0 (omega arith) c.index-front-j.is c.note.ensures c.attempt-rested.ensures c.second_duty-duty.ensures
+      c.loop-j.invariant.0 (omega arith) c.index-labels-j.is c.note.ensures c.attempt-rested.ensures c.second_duty-duty.ensures
       c.note-in-loop-j.ensures c.attempt-moved.ensures c.offer_live.ensures.smallest c.offer_live.ensures.more c.offer_live.ensures.room
       c.offer_live-in-loop-j.ensures.smallest c.offer_live-in-loop-j.ensures.more c.offer_live-in-loop-j.ensures.room,
   c.offer_live-in-loop-j.ensures.lender ∙ c.offer_live.ensures.lender ∙ c.loop-j.invariant.1,
@@ -35,10 +34,9 @@ loop-j-preserved g c = (
 pub returns : goal.returns
 returns g c =
     let f = c.loop-j.frontier in
-    let end : c.loop-j.j ≡ c.args.count = omega arith in
+    let end : c.loop-j.j ≡ length c.args.labels.now = omega arith in
     record {
-      smallest = expanded-all g.B.RuleBook.names g.B.RuleBook.after c.args.stops.now c.args.q g.B.Row.Figures.better c.args.front.now _
-          f c.loop-j.j c.args.count c.count.result _ c.loop-j.invariant.0 end c.count.ensures (search rules);
-      within = front_fits f _ _ c.count.ensures (search rules);
-      few = omega (arith, c.loop-j.invariant.0.few, c.count.ensures, end);
+      smallest = expanded-all g.B.RuleBook.names g.B.RuleBook.after c.args.stops.now c.args.q g.B.Row.Figures.better c.args.labels.now _
+          f c.loop-j.j c.count-kept.result _ _ c.loop-j.invariant.0 end c.count-kept.ensures (search rules) c.split_at.ensures.front;
+      few = omega (arith, c.loop-j.invariant.0.few, c.count-kept.ensures, end, ap length c.split_at.ensures.front);
     }
