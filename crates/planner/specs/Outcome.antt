@@ -4,16 +4,19 @@
 --   Ends .. k span trail t j   the first end is after quarter now + t, and the trail leads there from the j-th label
 --   NoneEnds .. k span         no lawful letters serve the tour by now + span
 --   Crowds .. k span           more than k labels are needed at a quarter at which none has ended yet
-use Rattle.std.specs.Prelude.{ℕ, ◌+◌, ◌<◌, ◌≤◌, List, [], ◌∷◌, ◌++◌, length, Option}
+--   FindsNone .. why           the refusal says which of the last two holds
+--   Searched .. r              the first end, or the refusal
+use Rattle.std.specs.Prelude.{◌≡◌, ℕ, ◌+◌, ◌<◌, ◌≤◌, ◌⊎◌, List, [], ◌∷◌, ◌++◌, length, Ok, Err, Option, Result}
 use Rattle.duty.specs.declared.Duty.{Duty}
 use Rattle.duty.specs.declared.Duty.TheVariants.{Work}
 use Rattle.rules.specs.declared.breach.Violation.{Violation}
+use Rattle.rules.specs.declared.refusal.Refusal.{Refusal}
+use Rattle.rules.specs.Refusals.{number}
 use Rattle.rules.specs.Walk.{Allowed}
 use Rattle.planning.specs.declared.Stop.{Stop}
 use Rattle.planning.specs.Labels.{Needed}
 use Rattle.planning.specs.Serving.{Serves}
-use Rattle.planner.specs.declared.search.Outcome.{Outcome}
-use Rattle.planner.specs.declared.search.Outcome.TheVariants.{End, Nowhere, Crowded}
+use Rattle.planner.specs.declared.search.End.{End}
 use Rattle.planner.specs.Trail.{Path}
 
 abbrev pub Unended : {R : Type 0} → (R → ℕ → Duty → Option Violation) → (R → ℕ → Duty → R) → List Stop → R → ℕ → ℕ → Type 0
@@ -44,8 +47,12 @@ pub record Crowds {R : Type 0} (names : R → ℕ → Duty → Option Violation)
   pub needed : Needed names after better stops start now (now + at) number
   pub more : k < number
 
+-- the refusals of a search: 10, none end; 11, too many labels are needed
+abbrev pub FindsNone : {R : Type 0} → (R → ℕ → Duty → Option Violation) → (R → ℕ → Duty → R) → (R → R → Type 0) → List Stop → R → ℕ → ℕ → ℕ → Refusal → Type 0
+FindsNone names after better stops start now k span why =
+    ((number why ≡ 10) × NoneEnds names after better stops start now k span) ⊎ ((number why ≡ 11) × Crowds names after better stops start now k span)
+
 -- what the search answers
-abbrev pub Searched : {R : Type 0} → (R → ℕ → Duty → Option Violation) → (R → ℕ → Duty → R) → (R → R → Type 0) → List Stop → R → ℕ → ℕ → ℕ → List ℕ → Outcome → Type 0
-Searched names after better stops start now k span trail (End t j) = Ends names after better stops start now k span trail t j
-Searched names after better stops start now k span trail Nowhere = NoneEnds names after better stops start now k span
-Searched names after better stops start now k span trail Crowded = Crowds names after better stops start now k span
+abbrev pub Searched : {R : Type 0} → (R → ℕ → Duty → Option Violation) → (R → ℕ → Duty → R) → (R → R → Type 0) → List Stop → R → ℕ → ℕ → ℕ → List ℕ → Result End Refusal → Type 0
+Searched names after better stops start now k span trail (Ok end) = Ends names after better stops start now k span trail end.quarter end.place
+Searched names after better stops start now k span trail (Err why) = FindsNone names after better stops start now k span why

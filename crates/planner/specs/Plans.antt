@@ -16,8 +16,9 @@ use Rattle.rules.specs.Refusals.{number}
 use Rattle.rules.specs.Walk.{Allowed}
 use Rattle.planning.specs.declared.Stop.{Stop}
 use Rattle.planning.specs.Serving.{Serves}
+use Rattle.planner.specs.declared.size.Size.{Size}
 use Rattle.planner.specs.History.{width, span}
-use Rattle.planner.specs.Outcome.{Few, NoneEnds, Crowds}
+use Rattle.planner.specs.Outcome.{Few, FindsNone}
 
 abbrev pub Unready : List Stop → ℕ → ℕ → ℕ → ℕ → Refusal → Type 0
 Unready stops now labels predecessors output r =
@@ -34,9 +35,9 @@ pub record Ready (stops : List Stop) (now labels predecessors output : ℕ) : Ty
   pub room : span stops now ≤ output
 
 -- the width and the span, or the refusal
-abbrev pub Sized : List Stop → ℕ → ℕ → ℕ → ℕ → Result (ℕ × ℕ) Refusal → Type 0
+abbrev pub Sized : List Stop → ℕ → ℕ → ℕ → ℕ → Result Size Refusal → Type 0
 Sized stops now labels predecessors output (Ok size) =
-    Ready stops now labels predecessors output × (size.0 ≡ width labels) × (size.1 ≡ span stops now)
+    Ready stops now labels predecessors output × (size.width ≡ width labels) × (size.span ≡ span stops now)
 Sized stops now labels predecessors output (Err why) = Unready stops now labels predecessors output why
 
 pub record Schedule {R : Type 0} (names : R → ℕ → Duty → Option Violation) (after : R → ℕ → Duty → R) (better : R → R → Type 0) (stops : List Stop) (start : R) (now k : ℕ) (out : List ℕ) (e : ℕ) : Type 0 where
@@ -50,8 +51,7 @@ pub record Schedule {R : Type 0} (names : R → ℕ → Duty → Option Violatio
 
 abbrev pub Solved : {R : Type 0} → (R → ℕ → Duty → Option Violation) → (R → ℕ → Duty → R) → (R → R → Type 0) → List Stop → R → ℕ → ℕ → ℕ → List ℕ → Result ℕ Refusal → Type 0
 Solved names after better stops start now k len out (Ok e) = Schedule names after better stops start now k out e
-Solved names after better stops start now k len out (Err why) =
-    ((number why ≡ 10) × NoneEnds names after better stops start now k len) ⊎ ((number why ≡ 11) × Crowds names after better stops start now k len)
+Solved names after better stops start now k len out (Err why) = FindsNone names after better stops start now k len why
 
 abbrev pub OutputLeft : ℕ → Result ℕ Refusal → List ℕ → List ℕ → Type 0
 OutputLeft now (Ok e) before after = drop (e - now) after ≡ drop (e - now) before
@@ -62,7 +62,7 @@ Planned names after better stops start now labels predecessors out (Ok e) =
     Ready stops now labels predecessors (length out) × Schedule names after better stops start now (width labels) out e
 Planned names after better stops start now labels predecessors out (Err why) =
     Unready stops now labels predecessors (length out) why
-    ⊎ (Ready stops now labels predecessors (length out) × (((number why ≡ 10) × NoneEnds names after better stops start now (width labels) (span stops now)) ⊎ ((number why ≡ 11) × Crowds names after better stops start now (width labels) (span stops now))))
+    ⊎ (Ready stops now labels predecessors (length out) × FindsNone names after better stops start now (width labels) (span stops now) why)
 
 abbrev pub Left : {X : Type 0} → Result ℕ Refusal → List X → List X → List X → Type 0
 Left (Ok e) before after cleared = after ≡ cleared

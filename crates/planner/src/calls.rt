@@ -48,13 +48,13 @@ fn plan_with<B: RuleBook>(
 ) -> Result<Answer, AllocError>
     ensures { IfOk result (AnswersPlan B.RuleBook.names B.RuleBook.after B.Row.Figures.better (stops_of tour.now) (B.RuleBook.figures card.entry.now.book) card.entry.now.now labels predecessors output) }
 {
-    let (width, span) = match ready(card, tour, labels, predecessors, output) {
+    let size = match ready(card, tour, labels, predecessors, output) {
         Ok(size) => size,
         Err(why) => return Ok(Err(why)),
     };
     let mut sheet = sheet_of(heap, first_label(tour.stops(), card.row()), labels)?;
-    let mut trail = vec![in heap; 0u16; width * span]?;
-    let mut letters = vec![in heap; 0u8; span]?;
+    let mut trail = vec![in heap; 0u16; size.width * size.span]?;
+    let mut letters = vec![in heap; 0u8; size.span]?;
     let planned = plan(
         card,
         tour,

@@ -9,5 +9,6 @@ mod letters;
 mod moves;
 pub mod plan;
 mod search;
+mod size;
 pub mod tour;
 mod trail;

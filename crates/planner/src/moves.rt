@@ -13,15 +13,7 @@ use rules::book::RuleBook;
 pub(crate) fn stop_at(stops: &[Stop], i: usize) -> Stop
     ensures { result ≡ stop_at stops.now i }
 {
-    match stops.get(i) {
-        Some(stop) => *stop,
-        None => Stop {
-            drive: 0,
-            service: 0,
-            opens: 0,
-            closes: 0,
-        },
-    }
+    stops.get(i).copied().unwrap_or_default()
 }
 
 // Whether the service of the current stop has begun.

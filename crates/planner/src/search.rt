@@ -1,23 +1,24 @@
 // The search, a quarter at a time: the labels that are needed, and where each came from.
 ghost use Rattle.std.specs.Prelude.{◌≡◌, ℕ, ◌+◌, ◌*◌, ◌<◌, ◌≤◌, [], ◌∷◌, length, take, if◌then◌else◌};
-ghost use Rattle.planning.specs.Labels.{stop_at};
 ghost use Rattle.planning.specs.Moves.{label_at};
 ghost use Rattle.planner.specs.Candidates.{alive};
 ghost use Rattle.planner.specs.Outcome.{Searched};
+ghost use Rattle.planner.specs.Toured.{stops_of};
 
 use crate::card::DriverCard;
 use crate::expand::{expand, find_serving, note_layer};
 use crate::moves::{is_alive, stop_at};
+use crate::size::Size;
+use crate::tour::Tour;
 use planning::{Label, Stop};
 use rules::book::RuleBook;
+use rules::refusal::Refusal;
 
-// What a search comes to: the last quarter of the schedule, counted from 0 at the card's, with the place of the label
-// that works it; no schedule; or more labels than there are places.
+// Where a schedule ends: its last quarter, counted from 0 at the card's, and the place of the label that works it.
 #[derive(Clone, Copy)]
-pub(crate) enum Outcome {
-    End(usize, usize),
-    Nowhere,
-    Crowded,
+pub(crate) struct End {
+    pub(crate) quarter: usize,
+    pub(crate) place: usize,
 }
 
 // The label at the beginning of the tour.
@@ -57,38 +58,38 @@ fn place_first<R: Copy + Drop>(
 // Goes on from quarter to quarter, with the labels of one quarter in `front` and those of the next in `back`.
 pub(crate) fn search<B: RuleBook>(
     card: &DriverCard<B>,
-    stops: &[Stop],
+    tour: &Tour,
+    size: Size,
     front: &mut [Label<B::Row>],
     back: &mut [Label<B::Row>],
     trail: &mut [u16],
-    span: usize,
-) -> Outcome
-    requires some_stop { 0 < length stops.now }
-    requires serviced { (i : ℕ) → i < length stops.now → 0 < (stop_at stops.now i).service }
-    requires width { (1 ≤ length front.old) × ((length front.old ≤ 4096) × (2 * length front.old ≤ length back.old)) }
-    requires room { span * length front.old ≤ length trail.old }
-    requires horizon { card.now.now + span ≤ 2688 }
-    ensures { Searched B.RuleBook.names B.RuleBook.after B.Row.Figures.better stops.now (B.RuleBook.figures card.entry.now.book) card.entry.now.now (length front.old) span trail.new result }
+) -> Result<End, Refusal>
+    requires some_stop { 0 < length (stops_of tour.now) }
+    requires sheet { (length front.old ≡ size.width) × (2 * size.width ≤ length back.old) }
+    requires trail_within { size.span * size.width ≤ length trail.old }
+    requires horizon { card.now.now + size.span ≤ 2688 }
+    ensures { Searched B.RuleBook.names B.RuleBook.after B.Row.Figures.better (stops_of tour.now) (B.RuleBook.figures card.entry.now.book) card.entry.now.now size.width size.span trail.new result }
 {
-    let width = front.len();
+    let Size { width, span } = size;
+    let stops = tour.stops();
     let mut count = place_first(front, stops, card.now(), card.row());
     for t in 0..span {
         let quarter = card.now() + t;
         // `&front[0..count]` has no proof where the labels are generic.
         let (labels, _) = front.split_at(count);
         if let Some(place) = find_serving::<B>(stops, quarter, labels) {
-            return Outcome::End(t, place);
+            return Ok(End { quarter: t, place });
         }
         if t + 1 == span {
-            return Outcome::Nowhere;
+            return Err(Refusal::NoSchedule);
         }
         let next = expand::<B>(stops, quarter, labels, back);
         if next.len() > width {
-            return Outcome::Crowded;
+            return Err(Refusal::Labels);
         }
         count = next.len();
         front[0..count].copy_from_slice(next);
         note_layer(&mut trail[t * width..t * width + count], next);
     }
-    Outcome::Nowhere
+    Err(Refusal::NoSchedule)
 }

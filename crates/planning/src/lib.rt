@@ -4,7 +4,7 @@
 mod cover;
 
 // A stop: the driving before it, the quarters of its service, and from when to when the service may begin.
-#[derive(Clone, Copy, PartialEq, Eq, Debug)]
+#[derive(Clone, Copy, PartialEq, Eq, Debug, Default)]
 pub struct Stop {
     pub drive: u16,
     pub service: u16,

@@ -7,14 +7,6 @@ use super::Tour;
 use planning::Stop;
 use rules::refusal::Refusal;
 
-// What stands in a place with no stop.
-const NO_STOP: Stop = Stop {
-    drive: 0,
-    service: 0,
-    opens: 0,
-    closes: 0,
-};
-
 fn in_range(stop: Stop) -> bool
     ensures { Decides result (InRange stop) }
 {
@@ -31,7 +23,7 @@ impl Tour {
         ensures { stops_of result ≡ [] }
     {
         Tour {
-            stops: [NO_STOP; 16],
+            stops: [Stop::default(); 16],
             count: 0,
         }
     }
