@@ -1,6 +1,7 @@
 -- A book over another: what both allow is allowed, and a log is allowed exactly when each allows it.
 use Rattle.std.specs.Prelude.{◌≡◌, ℕ, ◌+◌, min, ◌⊎◌, List, [], ◌∷◌, Some, None, Option, ◌≢◌, refl}
-use Rattle.std.proofs.Common.{inl, inr, sym, ap, subst, ◌∙◌, arith}
+use Rattle.std.proofs.Common.{inl, inr, sym, ap, subst, ◌∙◌}
+use Rattle.std.proofs.lemmas.Option.{none-some}
 use Rattle.duty.specs.declared.Duty.{Duty}
 use Rattle.rules.specs.declared.breach.Violation.{Violation}
 use Rattle.rules.specs.declared.layered.Layered.{Layered}
@@ -9,7 +10,7 @@ use Rattle.rules.specs.Piling.{both_name, both_move}
 use Rattle.rules.specs.Walk.{Allowed}
 
 pub some-none : {V : Type 0} (v : V) → Some v ≢ None
-some-none v e = let z : ◌≡◌ {A = ℕ} 0 1 = cc in omega arith
+some-none v e = none-some v (sym e)
 
 pub named_none : (n : ℕ) (a b : Option Violation) → first_named a (raised n b) ≡ None → (a ≡ None) × (b ≡ None)
 named_none n None None e = (refl, refl)

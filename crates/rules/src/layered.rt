@@ -20,7 +20,7 @@ impl<O: Figures, U: Figures> Figures for Layered<O, U> {
 
     ghost reflexive = { Prim.search rules };
 
-    ghost transitive = { λ a b c p q. (O.Figures.transitive _ _ _ p.0 q.0, U.Figures.transitive _ _ _ p.1 q.1) };
+    ghost transitive = { Prim.search rules };
 
     fn dominates(&self, other: &Self) -> bool {
         self.own.dominates(&other.own) && self.below.dominates(&other.below)
@@ -97,7 +97,7 @@ impl<L: RuleBook, B: RuleBook> RuleBook for Layered<L, B> {
 
     ghost renewed = { Prim.search rules };
 
-    ghost based = { omega (arith, L.RuleBook.based.0, B.RuleBook.based.0) };
+    ghost based = { Prim.search rules };
 
     ghost placed = { λ s q x v e.
         elim (named_cases B.RuleBook.layers (B.RuleBook.names s.below q x) (L.RuleBook.names s.own q x) v e) [
