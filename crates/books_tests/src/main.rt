@@ -14,8 +14,8 @@ fn main(rt: HostRuntime) -> io::Result<()> {
     for line in BufReader::new(heap, rt.stdin())?.lines(heap) {
         let line = line?;
         if !line.as_str().starts_with("#") {
-            let found = Case::of(heap, line.as_str())?
-                .and_then(|case| piles::judged(case.name, case.log.as_slice()));
+            let read = Case::of(heap, line.as_str())?;
+            let found = read.and_then(|case| piles::judged(case.name, case.log.as_slice()));
             println!(rt; "{}", Answer(found))?;
         }
     }

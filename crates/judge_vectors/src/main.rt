@@ -21,8 +21,8 @@ fn main(rt: HostRuntime) -> io::Result<()> {
     let heap = rt.alloc();
     for line in BufReader::new(heap, rt.stdin())?.lines(heap) {
         let line = line?;
-        let found = Case::of(heap, line.as_str())?
-            .and_then(|case| judged(case.name, case.log.as_slice()));
+        let read = Case::of(heap, line.as_str())?;
+        let found = read.and_then(|case| judged(case.name, case.log.as_slice()));
         println!(rt; "{}", Answer(found))?;
     }
     Ok(())
