@@ -1,26 +1,25 @@
 -- The laws of the cycle: a state that is no worse stays so, and what is made from a row is a state.
 use Rattle.std.specs.Prelude.{◌≡◌, ℕ, ◌≤◌, Bool, true, false, cond, List, Some, None, ◌==◌, refl}
-use Rattle.std.proofs.Common.{sym, ap, subst, subst₂, arith}
-use Rattle.std.proofs.lemmas.Bool.{cond-true, cond-false, cond_both, and_parts, and_from, leb-true, leb-false, le-leb, lt-leb, eqb-false, ne_eqb}
+use Rattle.std.proofs.Common.{sym, subst, subst₂, arith, rules}
+use Rattle.std.proofs.lemmas.Bool.{cond-true, cond-false, cond_both, leb-false, lt-leb, eqb-false, ne_eqb}
 use Rattle.duty.specs.declared.Duty.{Duty}
 use Rattle.duty.specs.declared.Duty.TheVariants.{Rest, Work, Drive}
 use Rattle.duty.specs.Duties.{resting, working}
 use Rattle.duty.specs.Runs.{next_run}
 use Rattle.rules.specs.declared.breach.Violation.{Violation}
-use Rattle.rules.specs.Layers.{moved}
 use Rattle.rules.specs.LayersLemmas.{some-none, moved_either}
 use Rattle.books.specs.declared.duty_cycle.row.CycleRow.{CycleRow}
 use Rattle.books.specs.DayCounts.{NoMore, none_on, total_on, next_counts}
 use Rattle.books.specs.Bounds.{CycleSound}
 use Rattle.books.specs.DutyCycle.{NoWorseCycle, given_cycle, cycle_names, next_cycle, cycle_after, fits_cycle, remade_cycle}
+use Rattle.books.specs.Tied.{moved_on}
 use Rattle.books.specs.Eights.{none_least, total_more, next_more, counts_within, decides_within}
 
 run_le : (full run : ℕ) (unbroken : Bool) → next_run full run unbroken ≤ full
-run_le full run unbroken = elim unbroken as (λ b. next_run full run b ≤ full) [ true ↦ omega arith | false ↦ omega arith ]
+run_le full run unbroken = grind arith
 
 run_more : (full run run' : ℕ) (unbroken : Bool) → run ≤ run' → next_run full run unbroken ≤ next_run full run' unbroken
-run_more full run run' unbroken h =
-    elim unbroken as (λ b. next_run full run b ≤ next_run full run' b) [ true ↦ omega arith | false ↦ omega arith ]
+run_more full run run' unbroken h = grind arith
 
 -- a run that is not full leaves a shorter one not full
 counts_more : (full run run' : ℕ) (on on' : List ℕ) → run ≤ run' → run' ≤ full → NoMore on' on → NoMore (cond (run' == full) none_on on') (cond (run == full) none_on on)
@@ -56,18 +55,14 @@ names_no_worse a b q Drive better none =
     let below = leb-false b.limit (total_on b.duty) (unnamed _ _ none) in
     cond-false _ _ _ (lt-leb a.limit (total_on a.duty) (omega (arith, below, better.limit, total_more a.duty b.duty better.duty)))
 
--- where nothing is named the state moves on
-moved_on : (s : CycleRow) (q : ℕ) (x : Duty) → cycle_names s q x ≡ None → cycle_after s q x ≡ next_cycle s q x
-moved_on s q x none = ap (λ o. moved o (next_cycle s q x) s) none
-
 pub cycle_keeps : (a b : CycleRow) (q : ℕ) (x : Duty) → NoWorseCycle a b → cycle_names b q x ≡ None → (cycle_names a q x ≡ None) × NoWorseCycle (cycle_after a q x) (cycle_after b q x)
 cycle_keeps a b q x better none =
     let too = names_no_worse a b q x better none in
-    (too, subst₂ NoWorseCycle (sym (moved_on a q x too)) (sym (moved_on b q x none)) (next_no_worse a b q x better))
+    (too, subst₂ NoWorseCycle (sym (moved_on _ _ _ too)) (sym (moved_on _ _ _ none)) (next_no_worse a b q x better))
 
 pub cycle_relieves : (s : CycleRow) (q : ℕ) → CycleSound s → cycle_names s q Drive ≡ None → NoWorseCycle (cycle_after s q Rest) (cycle_after s q Drive)
 cycle_relieves s q sound none =
-    subst (NoWorseCycle (next_cycle s q Rest)) (sym (moved_on s q Drive none))
+    subst (NoWorseCycle (next_cycle s q Rest)) (sym (moved_on (cycle_names s q Drive) (next_cycle s q Drive) s none))
     (record {
       days = refl;
       limit = refl;
@@ -89,28 +84,10 @@ cycle_endures s q x sound =
     moved_either CycleSound (cycle_names s q x) (next_cycle s q x) s (next_sound s q x sound) sound
 
 pub fits_sound : (s : CycleRow) → fits_cycle s ≡ true → CycleSound s
-fits_sound s e =
-    let seven = and_parts _ _ e in
-    let six = and_parts _ _ seven.0 in
-    let five = and_parts _ _ six.0 in
-    let four = and_parts _ _ five.0 in
-    let three = and_parts _ _ four.0 in
-    let two = and_parts _ _ three.0 in
-    let one = and_parts _ _ two.0 in (
-      (leb-true _ _ one.0, leb-true _ _ one.1, leb-true _ _ two.1, leb-true _ _ three.1),
-      (leb-true _ _ four.1, leb-true _ _ five.1, leb-true _ _ six.1),
-      (decides_within _ _).0 seven.1,
-    )
+fits_sound s e = search (rules, decides_within)
 
 sound_fits : (s : CycleRow) → CycleSound s → fits_cycle s ≡ true
-sound_fits s (figures, rested, within) =
-    let one = and_from _ _ (le-leb 1 s.days figures.0) (le-leb s.days 8 figures.1) in
-    let two = and_from _ _ one (le-leb 1 s.limit figures.2) in
-    let three = and_from _ _ two (le-leb s.limit 768 figures.3) in
-    let four = and_from _ _ three (le-leb 1 s.restart rested.0) in
-    let five = and_from _ _ four (le-leb s.restart 672 rested.1) in
-    let six = and_from _ _ five (le-leb s.rest s.restart rested.2) in
-    and_from _ _ six ((decides_within _ _).1 within)
+sound_fits s sound = search (rules, decides_within)
 
 pub remade_sound : (s : CycleRow) → CycleSound (remade_cycle s)
 remade_sound s =

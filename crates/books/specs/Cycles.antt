@@ -1,6 +1,6 @@
 -- The cycle keeps just its sentence.
-use Rattle.std.specs.Prelude.{◌≡◌, ℕ, suc, ◌+◌, ◌-◌, ◌%◌, ◌<◌, ◌≤◌, max, Bool, true, false, cond, List, [], ◌∷◌, Some, None, ◌==◌, ◌≢◌, nat_le, refl}
-use Rattle.std.proofs.Common.{inl, inr, sym, ap, ◌∙◌, arith}
+use Rattle.std.specs.Prelude.{◌≡◌, ℕ, suc, ◌+◌, ◌-◌, ◌%◌, ◌<◌, ◌≤◌, max, Bool, true, false, cond, List, [], ◌∷◌, None, ◌==◌, ◌≢◌, refl}
+use Rattle.std.proofs.Common.{inl, sym, ap, ◌∙◌, arith}
 use Rattle.std.proofs.lemmas.Bool.{cond-true, cond-false, leb-true, leb-false, eqb-true, eqb-false}
 use Rattle.duty.specs.declared.Duty.{Duty}
 use Rattle.duty.specs.declared.Duty.TheVariants.{Rest, Work, Drive}
@@ -8,17 +8,16 @@ use Rattle.duty.specs.Duties.{resting, driving, working}
 use Rattle.duty.specs.Logs.{at, count}
 use Rattle.duty.proofs.Counts.{count_more_one}
 use Rattle.duty.proofs.Runs.{run_at, since_at, since-le, latest-since}
-use Rattle.rules.specs.Layers.{moved}
 use Rattle.books.specs.declared.duty_cycle.row.CycleRow.{CycleRow}
 use Rattle.books.specs.DayCounts.{total_on, next_counts}
 use Rattle.books.specs.DutyCycle.{opened_cycle, cycle_names, next_cycle, cycle_after}
 use Rattle.books.specs.Sentences.{Keeps, duty_cycle, days_from}
 use Rattle.books.specs.Sets.{placed, cycle_rules}
-use Rattle.books.specs.Broken.{FirstBroken}
+use Rattle.books.specs.Broken.{FirstBroken, broken_test}
 use Rattle.books.specs.Daily.{counts_by, none_by, gone_by, turned_by, total_by}
 use Rattle.books.specs.Days.{day_back, back_le, reached, reached_up, reached_today, reached_full, reached-same, reached_older, reached_new}
-use Rattle.books.specs.Limits.{status_not, latest-all}
-use Rattle.books.specs.Tied.{Tied}
+use Rattle.books.specs.Limits.{undriven, latest-all}
+use Rattle.books.specs.Tied.{Tied, moved_on}
 
 -- the sentence's first quarter of the latest days, in the words of the counts
 from_back : (days k : ℕ) → 1 ≤ days → days_from days k ≡ day_back k (days - 1)
@@ -50,7 +49,7 @@ module _ (days limit restart : ℕ) (some : 1 ≤ days) (few : days ≤ 8) where
 
     moves : cycle_names (cycle_at l k) k (at l k) ≡ None → cycle_after (cycle_at l k) k (at l k) ≡ cycle_at l (suc k)
     moves none =
-        ap (λ o. moved o (next_cycle (cycle_at l k) k (at l k)) (cycle_at l k)) none
+        moved_on _ _ _ none
         ∙ (λ i. record { days = days; limit = limit; restart = restart; duty = go (run_at resting restart l (suc k) == restart) refl i; rest = run_at resting restart l (suc k) })
       where
         go : (b : Bool) → (run_at resting restart l (suc k) == restart) ≡ b → (next_cycle (cycle_at l k) k (at l k)).duty ≡ counts_by days (reached restart l (suc k))
@@ -76,16 +75,13 @@ module _ (days limit restart : ℕ) (some : 1 ≤ days) (few : days ≤ 8) where
     says = go (at l k) refl
       where
         other : (x : Duty) → at l k ≡ x → driving x ≡ false → FirstBroken (placed 1 (cycle_rules days limit restart ∷ [])) l k None
-        other x e stands = inl ((λ drives. absurd (status_not driving _ x Drive e stands drives refl)), refl)
-
-        tested : at l k ≡ Drive → (b : Bool) → nat_le limit (total_on (counts_by days (reached restart l k))) ≡ b → FirstBroken (placed 1 (cycle_rules days limit restart ∷ [])) l k (cond b (Some (record { rule = 6; layer = 1 })) None)
-        tested drives true e = inr (broken drives (leb-true _ _ e), refl)
-        tested drives false e = inl (kept (ap working drives) (leb-false _ _ e), refl)
+        other x e stands = inl (undriven (at l k) x e stands, refl)
 
         go : (x : Duty) → at l k ≡ x → FirstBroken (placed 1 (cycle_rules days limit restart ∷ [])) l k (cycle_names (cycle_at l k) k x)
         go Rest e = other Rest e refl
         go Work e = other Work e refl
-        go Drive e = tested e _ refl
+        go Drive e =
+            broken_test l k (1, duty_cycle days limit restart) [] _ _ (λ many. broken e (leb-true _ _ many)) (λ few. kept (ap working e) (leb-false _ _ few)) refl
 
   pub cycle_tied : Tied cycle_names cycle_after (opened_cycle days limit restart) (cycle_rules days limit restart ∷ [])
   cycle_tied = record { state = cycle_at; start = start; moves = moves; says = says }

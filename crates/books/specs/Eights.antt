@@ -27,7 +27,7 @@ pub total_more : (on on' : List ℕ) → NoMore on on' → total_on on ≤ total
 total_more on on' more = omega (arith, more 0, more 1, more 2, more 3, more 4, more 5, more 6, more 7)
 
 aged_more : (days i m n : ℕ) → m ≤ n → aged days i m ≤ aged days i n
-aged_more days i m n h = elim (nat_lt i days) as (λ t. cond t m 0 ≤ cond t n 0) [ true ↦ h | false ↦ omega arith ]
+aged_more days i m n h = grind (arith, nat_tests)
 
 turned_more : (days m n : ℕ) (on on' : List ℕ) → m ≤ n → NoMore on on' → NoMore (turned days m on) (turned days n on')
 turned_more days m n on on' h more =

@@ -8,6 +8,7 @@ use Rattle.rules.specs.declared.breach.Breach.{Breach}
 use Rattle.rules.specs.declared.breach.Violation.{Violation}
 use Rattle.rules.specs.declared.layered.Layered.{Layered}
 use Rattle.rules.specs.Judged.{breach_at}
+use Rattle.rules.specs.Layers.{moved}
 use Rattle.rules.specs.Walk.{led, Allowed}
 use Rattle.rules.proofs.Along.{along_led, along_allowed, along_each}
 use Rattle.rules.specs.Piling.{both_name, both_move}
@@ -21,6 +22,10 @@ pub record Tied {S : Type 0} (names : S → ℕ → Duty → Option Violation) (
   pub start : (l : List Duty) → state l 0 ≡ opened
   pub moves : (l : List Duty) (k : ℕ) → names (state l k) k (at l k) ≡ None → after (state l k) k (at l k) ≡ state l (suc k)
   pub says : (l : List Duty) (k : ℕ) → FirstBroken (placed 1 set) l k (names (state l k) k (at l k))
+
+-- where nothing is named the state moves on
+pub moved_on : {S : Type 0} (o : Option Violation) (new old : S) → o ≡ None → moved o new old ≡ new
+moved_on o new old none = ap (λ p. moved p new old) none
 
 breach-same : (a b : Breach) → Some a ≡ Some b → a ≡ b
 breach-same a b e = cc

@@ -8,14 +8,13 @@ use Rattle.duty.specs.declared.Duty.TheVariants.{Rest, Work, Drive}
 use Rattle.duty.specs.Duties.{driving}
 use Rattle.duty.specs.Logs.{at, count}
 use Rattle.duty.proofs.Counts.{count_more, count_more_one, count_none, count_parts}
-use Rattle.rules.specs.Layers.{moved}
 use Rattle.books.specs.declared.weeks.row.WeeksRow.{WeeksRow}
 use Rattle.books.specs.EuWeeks.{opened_weeks, next_weeks, weeks_names, weeks_after}
 use Rattle.books.specs.Sentences.{week_driving, fortnight_driving}
 use Rattle.books.specs.Sets.{placed, weeks_rules}
 use Rattle.books.specs.Broken.{FirstBroken, broken_test}
-use Rattle.books.specs.Limits.{status_not}
-use Rattle.books.specs.Tied.{Tied}
+use Rattle.books.specs.Limits.{undriven}
+use Rattle.books.specs.Tied.{Tied, moved_on}
 
 -- the driving from the beginning of week w on and before quarter k
 abbrev driven_from : List Duty → ℕ → ℕ → ℕ
@@ -45,18 +44,14 @@ module _ (l : List Duty) (k : ℕ) where
           ∙ (λ i. record { this = (more ∙ ap (λ w. driven_from l w (suc k)) week) i; last = driven_from l (week i - 1) (672 * week i) })
 
   weeks_moves : weeks_names (weeks_at l k) k (at l k) ≡ None → weeks_after (weeks_at l k) k (at l k) ≡ weeks_at l (suc k)
-  weeks_moves none = ap (λ o. moved o (next_weeks (weeks_at l k) k (at l k)) (weeks_at l k)) none ∙ weeks_next
+  weeks_moves none = moved_on _ _ _ none ∙ weeks_next
 
   weeks_says : FirstBroken (placed 1 (weeks_rules ∷ [])) l k (weeks_names (weeks_at l k) k (at l k))
   weeks_says = go (at l k) refl
     where
       -- a status that is no driving
       other : (x : Duty) → at l k ≡ x → driving x ≡ false → FirstBroken (placed 1 (weeks_rules ∷ [])) l k None
-      other x e still =
-          inl (
-            (λ drives. absurd (status_not driving _ x Drive e still drives refl)),
-            inl ((λ drives. absurd (status_not driving _ x Drive e still drives refl)), refl),
-          )
+      other x e still = inl (undriven (at l k) x e still, inl (undriven (at l k) x e still, refl))
 
       -- one more where quarter k is driving
       one_more : at l k ≡ Drive → (w : ℕ) → w ≤ k / 672 → driven_from l w (k + 1) ≡ 1 + driven_from l w k

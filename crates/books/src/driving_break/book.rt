@@ -4,7 +4,7 @@ ghost use Rattle.books.specs.Bounds.{BreakSound};
 ghost use Rattle.books.specs.DrivingBreak.{break_row, given_break, opened_break, break_names, next_break, break_after, remade_break};
 ghost use Rattle.books.specs.Sets.{Lawful, break_rules};
 ghost use Rattle.std.proofs.Common.{rules};
-ghost use Rattle.books.specs.Breaks.{break_tied, remade_sound};
+ghost use Rattle.books.specs.Breaks.{break_tied};
 ghost use Rattle.books.specs.Tied.{tied_judged};
 ghost use Rattle.rules.specs.LayersLemmas.{moved_same};
 
@@ -78,7 +78,7 @@ impl RuleBook for BreakState {
 
     ghost fresh = { Prim.search rules };
 
-    ghost valid = { remade_sound };
+    ghost valid = { λ s. Prim.search rules };
 
     ghost restores = { Prim.search rules };
 
