@@ -1,9 +1,7 @@
 // The calls that a line spells: `SET LABELS REPEAT`, and then a stop a word, `DRIVE,SERVICE,OPENS,CLOSES`.
+use duty::HORIZON;
 use planner::call::Call;
 use std::alloc::{AllocError, Global};
-
-// The quarters of the horizon.
-const HORIZON: usize = 2688;
 
 // The number that is the line's word at `place`.
 fn number_at(line: &str, place: usize) -> Option<u16> {

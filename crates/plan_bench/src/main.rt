@@ -13,7 +13,7 @@ use std::alloc::{AllocError, Global};
 use std::io;
 use std::io::{BufRead, BufReader};
 
-// The answers to the calls under a rule set.
+// The answers to the calls under a rule set, of which each has books of a type of its own, and so an arm of its own.
 fn run_by(heap: Global, set: RuleSet, calls: &[Call]) -> Result<Vec<Answer>, AllocError> {
     match set {
         RuleSet::Us7 => run_calls(heap, &us7(), calls),

@@ -1,5 +1,5 @@
 // A run of calls on a new card and a new tour: the call that the promise stands on.
-ghost use Rattle.std.specs.Prelude.{◌≡◌, length, IfOk, vec_len};
+ghost use Rattle.std.specs.Prelude.{◌≡◌, IfOk};
 ghost use Rattle.planner.specs.History.{fresh};
 ghost use Rattle.planner.specs.Promise.{Kept};
 ghost use Rattle.planner.specs.Standing.{AnswersPlan, AnswersCall, answer_of};
@@ -10,7 +10,6 @@ use crate::card::DriverCard;
 use crate::plan::{plan, ready};
 use crate::search::first_label;
 use crate::tour::Tour;
-use planning::Label;
 use rules::book::RuleBook;
 use rules::refusal::Refusal;
 use std::alloc::{AllocError, Global};
@@ -20,21 +19,6 @@ fn done_or_refused(res: Result<(), Refusal>) -> Answer
     ensures { result ≡ answer_of res }
 {
     res.map(|()| None)
-}
-
-// A sheet of so many labels.
-fn sheet_of<R: Copy + Drop>(
-    heap: Global,
-    label: Label<R>,
-    count: usize,
-) -> Result<Vec<Label<R>>, AllocError>
-    ensures { IfOk result (λ v. vec_len v ≡ count) }
-{
-    let mut sheet = Vec::new(heap);
-    for _placed in 0..count {
-        sheet.push(label)?;
-    }
-    Ok(sheet)
 }
 
 // Plans with buffers of these lengths, of which it makes what the search uses; nothing is made where no search is.
@@ -52,7 +36,7 @@ fn plan_with<B: RuleBook>(
         Ok(size) => size,
         Err(why) => return Ok(Err(why)),
     };
-    let mut sheet = sheet_of(heap, first_label(tour.stops(), card.row()), labels)?;
+    let mut sheet = vec![in heap; first_label(tour.stops(), card.row()); labels]?;
     let mut trail = vec![in heap; 0u16; size.width * size.span]?;
     let mut letters = vec![in heap; 0u8; size.span]?;
     let planned = plan(

@@ -1,5 +1,4 @@
 pub mod Fronts
-pub mod Wording
 pub mod Answering
 pub mod Histories
 pub mod Meanings

@@ -2,7 +2,7 @@
 ghost use Rattle.std.specs.Prelude.{List, IfOk};
 ghost use Rattle.lines.specs.Texts.{calls_read};
 ghost use Rattle.planner.specs.History.{fresh};
-ghost use Rattle.planner.specs.Promise.{Answer as Given, Kept};
+ghost use Rattle.planner.specs.Promise.{Answer, Kept};
 ghost use Rattle.replies.specs.Promised.{KeptUnder, Reply, Answered};
 ghost use Rattle.replies.specs.Replies.{Replied};
 
@@ -21,20 +21,20 @@ fn reply_under<B: RuleBook>(
     book: &B,
     readings: &[Result<Line, Refusal>],
 ) -> Result<Vec<u8>, AllocError>
-    ensures { IfOk result (λ reply. ((answers : List Given) × Kept B.RuleBook.names B.RuleBook.after B.Row.Figures.better (B.RuleBook.opened (B.RuleBook.figures book.now)) (B.RuleBook.lawful (B.RuleBook.figures book.now)) fresh (calls_read readings.now) answers × Replied 1 readings.now answers reply.items)) }
+    ensures { IfOk result (λ reply. ((answers : List Answer) × Kept B.RuleBook.names B.RuleBook.after B.Row.Figures.better (B.RuleBook.opened (B.RuleBook.figures book.now)) (B.RuleBook.lawful (B.RuleBook.figures book.now)) fresh (calls_read readings.now) answers × Replied 1 readings.now answers reply.items)) }
 {
     let calls = calls_of(heap, readings)?;
     let answers = run_calls(heap, book, calls.as_slice())?;
     spell_reply(heap, readings, answers.as_slice())
 }
 
-// The reply to the lines of a text under a named rule set.
+// The reply to the lines of a text under a named rule set, of which each has books of a type of its own, and so an arm of its own.
 fn reply_by(
     heap: Global,
     set: RuleSet,
     readings: &[Result<Line, Refusal>],
 ) -> Result<Vec<u8>, AllocError>
-    ensures { IfOk result (λ reply. ((answers : List Given) × KeptUnder set (calls_read readings.now) answers × Replied 1 readings.now answers reply.items)) }
+    ensures { IfOk result (λ reply. ((answers : List Answer) × KeptUnder set (calls_read readings.now) answers × Replied 1 readings.now answers reply.items)) }
 {
     match set {
         RuleSet::Us7 => reply_under(heap, &us7(), readings),

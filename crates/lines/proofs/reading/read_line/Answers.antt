@@ -1,27 +1,14 @@
-use Rattle.std.proofs.Common.{◌≡◌, ℕ, List, Bool, ◌==◌, Decides, ◌∷◌, ◌++◌, Ok, codes, sym, refl, ap, ◌∙◌, subst}
+use Rattle.std.proofs.Common.{◌≡◌, ℕ, List, Bool, ◌==◌, Decides, ◌∷◌, ◌++◌, codes, sym, refl, ap, ◌∙◌, subst}
 use Rattle.std.specs.Cmp.Lexicographic.{pointwise}
 use Rattle.std.proofs.lemmas.Slice.Eq.{slice_eq-Decides}
 use Rattle.std.proofs.lemmas.Bool.Decides.{not_from_Decides, Decides-eqb}
-use Rattle.planner.specs.declared.call.Call.TheVariants.{Drop}
-use Rattle.lines.specs.declared.line.Line.TheVariants as line
-use Rattle.lines.specs.Says.{Reads, plan_call}
-use Rattle.lines.proofs.Spellings.{drop-reads, plan_reads, no_fields, no_kind}
+use Rattle.lines.specs.Says.{Reads}
+use Rattle.lines.proofs.Spellings.{no_fields, no_kind}
 use Rattle.lines.proofs.reading.read_line.Goals as goal
 
 -- what `==` says of a slice and of an array of bytes that is seen as one
 array_eq-Decides : (xs ys zs : List ℕ) (r : Bool) → zs ≡ ys → r ≡ pointwise ◌==◌ xs zs → Decides r (xs ≡ ys)
 array_eq-Decides xs ys zs r e h = subst (λ l. Decides r (xs ≡ l)) e (slice_eq-Decides Decides-eqb xs zs r h)
-
-pub returns-then-eq : goal.returns-then-eq
-returns-then-eq c =
-    let same = (array_eq-Decides c.args.line.now (codes "drop") c.as_slice.result.now c.eq.result c.as_slice.ensures c.eq.ensures).0 c.if-eq.true in
-    subst (λ l. Reads c.args.place l (Ok (line.Call Drop))) (sym same) (drop-reads c.args.place)
-
-pub returns-then-eq-2 : goal.returns-then-eq-2
-returns-then-eq-2 c =
-    let same = (array_eq-Decides c.args.line.now (codes "plan") c.as_slice-2.result.now c.eq-2.result c.as_slice-2.ensures c.eq-2.ensures).0 c.if-eq-2.true in
-    subst (λ call. Reads c.args.place c.args.line.now (Ok (line.Call call))) (sym c.plan_call.ensures)
-    (subst (λ l. Reads c.args.place l (Ok (line.Call plan_call))) (sym same) (plan_reads c.args.place))
 
 pub returns-in_default : goal.returns-in_default
 returns-in_default c = (
@@ -44,13 +31,6 @@ returns-then-eq-4 c =
     subst (λ l. Reads c.args.place l c.read_stop.result)
     (sym (c.in-Some.ensures.whole ∙ ap (λ kind. kind ++ 44 ∷ c.in-Some.fields.now) same))
     (c.read_stop.ensures c.args.place)
-
-pub returns-then-eq-5 : goal.returns-then-eq-5
-returns-then-eq-5 c =
-    let same = (array_eq-Decides c.in-Some.kind.now (codes "rules") c.as_slice-else-eq-4.result.now c.eq-else-eq-4.result c.as_slice-else-eq-4.ensures c.eq-else-eq-4.ensures).0 c.if-eq-5.true in
-    subst (λ l. Reads c.args.place l c.read_rules.result)
-    (sym (c.in-Some.ensures.whole ∙ ap (λ kind. kind ++ 44 ∷ c.in-Some.fields.now) same))
-    c.read_rules.ensures
 
 pub returns-else-eq-5 : goal.returns-else-eq-5
 returns-else-eq-5 c = (

@@ -4,10 +4,6 @@ use Rattle.fields.specs.Numbers.{Spells}
 use Rattle.lines.proofs.Spellings.{stop_reads, not_stop}
 use Rattle.lines.proofs.reading.read_stop.Goals as goal
 
-pub returns-in_default : goal.returns-in_default
-returns-in_default c =
-    λ place. (refl, not_stop place c.args.fields.now (λ drive service opens closes d s o cl e. c.in_default.ensures drive _ d e))
-
 pub returns-in_default-leading_number : goal.returns-in_default-leading_number
 returns-in_default-leading_number c =
     λ place. (

@@ -6,12 +6,6 @@ use Rattle.lines.specs.Says.{Reads}
 use Rattle.lines.specs.Texts.{ReadFrom}
 use Rattle.lines.proofs.whole.read_text.Goals as goal
 
-pub loop-rest-smaller : goal.loop-rest-smaller
-loop-rest-smaller c =
-    let nonempty = eqb-false (length c.loop-rest.rest.now) 0 (sym c.loop-rest-test.ensures) in
-    let some : 0 < length c.loop-rest.rest.now = omega arith in
-    rest_shorter c.loop-rest.rest.now c.first_line.result.0.now c.first_line.result.1.now c.first_line.ensures some
-
 pub loop-rest-preserved : goal.loop-rest-preserved
 loop-rest-preserved c =
     let rest = c.loop-rest.rest.now in

@@ -1,15 +1,14 @@
 use Rattle.std.proofs.Common.{◌≡◌, length, Ok, Err, vec_items, vec_len, ◌∙◌, subst, arith}
-use Rattle.std.proofs.lemmas.Result.{IfOk-from_err}
 use Rattle.replies.specs.Promised.{Answered}
 use Rattle.replies.proofs.Named.{breaches_first}
 use Rattle.replies.proofs.Printouts.{answer_length, kept-front, reply-printed, written, refusal_printed}
 use Rattle.replies.proofs.printing.printed.Goals as goal
 
-pub returns-in_err-length : goal.returns-in_err-length
-returns-in_err-length c = record { value = IfOk-from_err c.from_residual-in_err-length.result _ c.from_residual-in_err-length.ensures.0; breaches = breaches_first }
+pub returns-in_err-length-clause-breaches : goal.returns-in_err-length-clause-breaches
+returns-in_err-length-clause-breaches c = breaches_first
 
-pub returns-in_err-line-in-Err : goal.returns-in_err-line-in-Err
-returns-in_err-line-in-Err c = record { value = IfOk-from_err c.from_residual-in_err-line-in-Err.result _ c.from_residual-in_err-line-in-Err.ensures.0; breaches = breaches_first }
+pub returns-in_err-line-in-Err-clause-breaches : goal.returns-in_err-line-in-Err-clause-breaches
+returns-in_err-line-in-Err-clause-breaches c = breaches_first
 
 pub returns-in-Ok : goal.returns-in-Ok
 returns-in-Ok c =
@@ -40,5 +39,5 @@ returns-in_ok-line-in-Err c =
       breaches = breaches_first;
     }
 
-pub returns-in_err-output : goal.returns-in_err-output
-returns-in_err-output c = record { value = IfOk-from_err c.from_residual.result _ c.from_residual.ensures.0; breaches = breaches_first }
+pub returns-in_err-output-clause-breaches : goal.returns-in_err-output-clause-breaches
+returns-in_err-output-clause-breaches c = breaches_first

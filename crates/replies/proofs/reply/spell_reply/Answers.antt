@@ -7,10 +7,6 @@ use Rattle.replies.specs.Replies.{Replied}
 use Rattle.replies.proofs.Answering.{line_takes, calls_more, replied_more}
 use Rattle.replies.proofs.reply.spell_reply.Goals as goal
 
-pub write_line-requires : goal.write_line-requires
-write_line-requires c =
-    omega (arith, c.loop-i.invariant.0, calls_more c.args.readings.now c.loop-i.i (Ok (line.Rules set.Us7)) c.loop-i-test.true)
-
 pub loop-i-preserved : goal.loop-i-preserved
 loop-i-preserved c =
     let readings = c.args.readings.now in

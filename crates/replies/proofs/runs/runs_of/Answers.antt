@@ -7,11 +7,6 @@ use Rattle.replies.specs.Schedules.{RunsFrom}
 use Rattle.replies.proofs.Fronts.{run_step}
 use Rattle.replies.proofs.runs.runs_of.Goals as goal
 
-pub overflow_add-first : goal.overflow_add-first
-overflow_add-first c =
-    let step = c.in-Some.ensures.steps in
-    omega (arith, c.loop-equal.invariant.0, ap length step.0, length-append c.in-Some.equal.now (chunk_by_rest c.next.new.self))
-
 pub loop-equal-preserved : goal.loop-equal-preserved
 loop-equal-preserved c =
     let step = c.in-Some.ensures.steps in
