@@ -8,7 +8,7 @@ ghost use Rattle.planning.specs.Moves.{serves_all};
 ghost use Rattle.planner.specs.Candidates.{live, layer, second};
 ghost use Rattle.planner.specs.Finding.{Found};
 
-use crate::moves::{attempt, is_alive, serves_all};
+use crate::moves::{Moment, is_alive};
 use crate::trail::note;
 use duty::Duty;
 use frontier::Frontier;
@@ -48,43 +48,39 @@ fn second_duty<R: Copy + Drop>(a: &Label<R>) -> Duty
 
 // A smallest cover of what the labels move to, kept at the front of `places`.
 pub(crate) fn expand<'a, B: RuleBook>(
-    stops: &[Stop],
-    q: usize,
+    moment: Moment<'_>,
     labels: &[Label<B::Row>],
     places: &'a mut [Label<B::Row>],
 ) -> &'a [Label<B::Row>]
     requires few { length labels.now ≤ 4096 }
     requires room { 2 * length labels.now ≤ length places.old }
-    requires early { q < 2688 }
     requires sound { (j : ℕ) (d : Label B.Row) → j < length labels.now → B.RuleBook.sound (slice_index_or labels.now j d).row }
-    ensures smallest { SmallestCover (Plainly B.Row.Figures.better) result.now (layer B.RuleBook.names B.RuleBook.after stops.now q 0 labels.now) }
+    ensures smallest { SmallestCover (Plainly B.Row.Figures.better) result.now (layer B.RuleBook.names B.RuleBook.after moment.entry.stops.now moment.entry.quarter 0 labels.now) }
     ensures few { length result.now ≤ 2 * length labels.now }
 {
     let mut frontier = Frontier::new(places);
     for (j, label) in labels.iter().enumerate() {
-        let rested = attempt::<B>(stops, q, note(j, Duty::Rest), label, Duty::Rest);
-        offer_live(&mut frontier, stops, q + 1, rested);
+        let rested = moment.attempt::<B>(note(j, Duty::Rest), label, Duty::Rest);
+        offer_live(&mut frontier, moment.stops, moment.quarter + 1, rested);
         let duty = second_duty(label);
-        let moved = attempt::<B>(stops, q, note(j, duty), label, duty);
-        offer_live(&mut frontier, stops, q + 1, moved);
+        let moved = moment.attempt::<B>(note(j, duty), label, duty);
+        offer_live(&mut frontier, moment.stops, moment.quarter + 1, moved);
     }
     let kept = frontier.count();
     places.split_at(kept).0
 }
 
-// The first of the labels from which work at quarter `q` serves the last quarter of the tour.
+// The first of the labels from which work serves the last quarter of the tour.
 pub(crate) fn find_serving<B: RuleBook>(
-    stops: &[Stop],
-    q: usize,
+    moment: Moment<'_>,
     labels: &[Label<B::Row>],
 ) -> Option<usize>
-    requires early { q < 2688 }
-    requires sound { (j : ℕ) (d : Label B.Row) → j < length labels.now → B.RuleBook.sound (slice_index_or labels.now j d).row }
-    ensures { Found (serves_all B.RuleBook.names stops.now q) labels.now (length labels.now) result }
+    requires { (j : ℕ) (d : Label B.Row) → j < length labels.now → B.RuleBook.sound (slice_index_or labels.now j d).row }
+    ensures { Found (serves_all B.RuleBook.names moment.entry.stops.now moment.entry.quarter) labels.now (length labels.now) result }
 {
     labels
         .iter()
-        .position(|label| serves_all::<B>(stops, q, label))
+        .position(|label| moment.serves_all::<B>(label))
 }
 
 // Writes where each of the labels came from.

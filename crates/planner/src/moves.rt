@@ -23,15 +23,6 @@ pub(crate) fn is_begun<R: Copy + Drop>(stops: &[Stop], a: &Label<R>) -> bool
     a.service < stop_at(stops, a.stop).service
 }
 
-// Whether work may stand at quarter `q`.
-pub(crate) fn is_ready<R: Copy + Drop>(stops: &[Stop], q: usize, a: &Label<R>) -> bool
-    ensures { result ≡ ready stops.now q a.now }
-{
-    let stop = stop_at(stops, a.stop);
-    let in_window = stop.opens as usize <= q && q <= stop.closes as usize;
-    a.drive == 0 && (is_begun(stops, a) || in_window)
-}
-
 // Whether the service has begun, or can still begin by its close.
 pub(crate) fn is_alive<R: Copy + Drop>(stops: &[Stop], q: usize, a: &Label<R>) -> bool
     ensures { result ≡ alive stops.now q a.now }
@@ -40,119 +31,110 @@ pub(crate) fn is_alive<R: Copy + Drop>(stops: &[Stop], q: usize, a: &Label<R>) -
     is_begun(stops, a) || (a.drive <= closes && q <= (closes - a.drive) as usize)
 }
 
-// Where work leads that the book allows: one quarter less of the service, or on to the next stop.
-fn serve<R: Copy + Drop>(
-    stops: &[Stop],
-    q: usize,
-    from: u16,
-    a: &Label<R>,
-    row: R,
-) -> Option<Label<R>>
-    ensures { result ≡ lead stops.now q from a.now row Work }
-{
-    if !is_ready(stops, q, a) {
-        return None;
+// A quarter of the search, and the stops of the tour.
+#[derive(Clone, Copy)]
+pub(crate) struct Moment<'a> {
+    pub(crate) stops: &'a [Stop],
+    pub(crate) quarter: usize,
+    ghost early: { quarter < 2688 },
+}
+
+// A label is a plain row by the rule of the sheet, so what takes one asks that its row is sound.
+impl Moment<'_> {
+    // Whether work may stand here.
+    fn is_ready<R: Copy + Drop>(self, a: &Label<R>) -> bool
+        ensures { result ≡ ready self.entry.stops.now self.entry.quarter a.now }
+    {
+        let stop = stop_at(self.stops, a.stop);
+        let in_window = stop.opens as usize <= self.quarter && self.quarter <= stop.closes as usize;
+        a.drive == 0 && (is_begun(self.stops, a) || in_window)
     }
-    if a.service > 1 {
-        return Some(Label {
-            stop: a.stop,
-            drive: a.drive,
-            service: a.service - 1,
+
+    // Where work leads that the book allows: one quarter less of the service, or on to the next stop.
+    fn serve<R: Copy + Drop>(self, from: u16, a: &Label<R>, row: R) -> Option<Label<R>>
+        ensures { result ≡ lead self.entry.stops.now self.entry.quarter from a.now row Work }
+    {
+        if !self.is_ready(a) {
+            return None;
+        }
+        if a.service > 1 {
+            let service = a.service - 1;
+            return Some(Label {
+                service,
+                from,
+                row,
+                ..*a
+            });
+        }
+        if a.stop >= self.stops.len() || a.stop + 1 >= self.stops.len() {
+            return None;
+        }
+        let next = stop_at(self.stops, a.stop + 1);
+        Some(Label {
+            stop: a.stop + 1,
+            drive: next.drive,
+            service: next.service,
             from,
             row,
-        });
+        })
     }
-    if a.stop >= stops.len() || a.stop + 1 >= stops.len() {
-        return None;
-    }
-    let next = stop_at(stops, a.stop + 1);
-    Some(Label {
-        stop: a.stop + 1,
-        drive: next.drive,
-        service: next.service,
-        from,
-        row,
-    })
-}
 
-// Where a status that the book allows leads, `row` being the row after it.
-pub(crate) fn follow<R: Copy + Drop>(
-    stops: &[Stop],
-    q: usize,
-    from: u16,
-    a: &Label<R>,
-    row: R,
-    duty: Duty,
-) -> Option<Label<R>>
-    ensures { result ≡ lead stops.now q from a.now row duty }
-{
-    match duty {
-        Duty::Rest => {
-            if is_begun(stops, a) {
-                None
-            } else {
+    // Where a status that the book allows leads, `row` being the row after it.
+    fn follow<R: Copy + Drop>(self, from: u16, a: &Label<R>, row: R, duty: Duty) -> Option<Label<R>>
+        ensures { result ≡ lead self.entry.stops.now self.entry.quarter from a.now row duty }
+    {
+        match duty {
+            Duty::Rest if !is_begun(self.stops, a) => Some(Label { from, row, ..*a }),
+            Duty::Drive if !is_begun(self.stops, a) && a.drive > 0 => {
+                let drive = a.drive - 1;
                 Some(Label {
-                    stop: a.stop,
-                    drive: a.drive,
-                    service: a.service,
+                    drive,
                     from,
                     row,
+                    ..*a
                 })
             }
+            Duty::Work => self.serve(from, a, row),
+            Duty::Rest | Duty::Drive => None,
         }
-        Duty::Drive => {
-            if is_begun(stops, a) || a.drive == 0 {
-                None
-            } else {
-                Some(Label {
-                    stop: a.stop,
-                    drive: a.drive - 1,
-                    service: a.service,
-                    from,
-                    row,
-                })
-            }
+    }
+
+    // The row after the status, where the book allows it.
+    fn after<B: RuleBook>(self, row: &B::Row, duty: Duty) -> Option<B::Row>
+        requires { B.RuleBook.sound row.now }
+        ensures { result ≡ (if is_some (B.RuleBook.names row.now self.entry.quarter duty) then None else Some (B.RuleBook.after row.now self.entry.quarter duty)) }
+    {
+        let mut state = B::remake(row);
+        if state.verdict(self.quarter, duty).is_some() {
+            return None;
         }
-        Duty::Work => serve(stops, q, from, a, row),
+        state.step(self.quarter, duty);
+        Some(state.row())
     }
-}
 
-// The row after the status, where the book allows it.
-pub(crate) fn after<B: RuleBook>(row: &B::Row, q: usize, duty: Duty) -> Option<B::Row>
-    requires { (B.RuleBook.sound row.now) × (q < 2688) }
-    ensures { result ≡ (if is_some (B.RuleBook.names row.now q duty) then None else Some (B.RuleBook.after row.now q duty)) }
-{
-    let mut state = B::remake(row);
-    if state.verdict(q, duty).is_some() {
-        return None;
+    // The label after the status, if there is one, with `from` as it is noted.
+    pub(crate) fn attempt<B: RuleBook>(
+        self,
+        from: u16,
+        a: &Label<B::Row>,
+        duty: Duty,
+    ) -> Option<Label<B::Row>>
+        requires { B.RuleBook.sound a.now.row }
+        ensures { result ≡ move B.RuleBook.names B.RuleBook.after self.entry.stops.now self.entry.quarter from a.now duty }
+    {
+        let row = self.after::<B>(&a.row, duty)?;
+        self.follow(from, a, row, duty)
     }
-    state.step(q, duty);
-    Some(state.row())
-}
 
-// The label after the status, if there is one, with `from` as it is noted.
-pub(crate) fn attempt<B: RuleBook>(
-    stops: &[Stop],
-    q: usize,
-    from: u16,
-    a: &Label<B::Row>,
-    duty: Duty,
-) -> Option<Label<B::Row>>
-    requires { (B.RuleBook.sound a.now.row) × (q < 2688) }
-    ensures { result ≡ move B.RuleBook.names B.RuleBook.after stops.now q from a.now duty }
-{
-    let row = after::<B>(&a.row, q, duty)?;
-    follow(stops, q, from, a, row, duty)
-}
-
-// Whether work at quarter `q` serves the last quarter of the tour.
-pub(crate) fn serves_all<B: RuleBook>(stops: &[Stop], q: usize, a: &Label<B::Row>) -> bool
-    requires { (B.RuleBook.sound a.now.row) × (q < 2688) }
-    ensures { result ≡ serves_all B.RuleBook.names stops.now q a.now }
-{
-    is_ready(stops, q, a)
-        && a.service == 1
-        && a.stop < stops.len()
-        && a.stop + 1 == stops.len()
-        && after::<B>(&a.row, q, Duty::Work).is_some()
+    // Whether work here serves the last quarter of the tour.
+    pub(crate) fn serves_all<B: RuleBook>(self, a: &Label<B::Row>) -> bool
+        requires { B.RuleBook.sound a.now.row }
+        ensures { result ≡ serves_all B.RuleBook.names self.entry.stops.now self.entry.quarter a.now }
+    {
+        self.is_ready(a)
+            && a.service == 1
+            && a.stop < self.stops.len()
+            && a.stop + 1 == self.stops.len()
+            && self.after::<B>(&a.row, Duty::Work).is_some()
+    }
 }

@@ -7,7 +7,7 @@ ghost use Rattle.planner.specs.Toured.{stops_of};
 
 use crate::card::DriverCard;
 use crate::expand::{expand, find_serving, note_layer};
-use crate::moves::{is_alive, stop_at};
+use crate::moves::{Moment, is_alive, stop_at};
 use crate::size::Size;
 use crate::tour::Tour;
 use planning::{Label, Stop};
@@ -75,15 +75,16 @@ pub(crate) fn search<B: RuleBook>(
     let mut count = place_first(front, stops, card.now(), card.row());
     for t in 0..span {
         let quarter = card.now() + t;
+        let moment = Moment { stops, quarter };
         // `&front[0..count]` has no proof where the labels are generic.
         let (labels, _) = front.split_at(count);
-        if let Some(place) = find_serving::<B>(stops, quarter, labels) {
+        if let Some(place) = find_serving::<B>(moment, labels) {
             return Ok(End { quarter: t, place });
         }
         if t + 1 == span {
             return Err(Refusal::NoSchedule);
         }
-        let next = expand::<B>(stops, quarter, labels, back);
+        let next = expand::<B>(moment, labels, back);
         if next.len() > width {
             return Err(Refusal::Labels);
         }

@@ -1,27 +1,16 @@
 // The notes of a trail: which label a label came from, and by which status.
 ghost use Rattle.std.specs.Prelude.{◌≡◌, ℕ, ◌<◌};
 ghost use Rattle.duty.specs.declared.Duty.{Duty};
-ghost use Rattle.planner.specs.Trail.{duty_code, entry as entry_of};
+ghost use Rattle.planner.specs.Trail.{entry as entry_of};
 
 use duty::Duty;
-
-// The number of a status in a note.
-fn duty_code(duty: Duty) -> u16
-    ensures { result ≡ duty_code duty }
-{
-    match duty {
-        Duty::Rest => 0,
-        Duty::Work => 1,
-        Duty::Drive => 2,
-    }
-}
 
 // What is noted of a label that came from the `j`-th by the status.
 pub(crate) fn note(j: usize, duty: Duty) -> u16
     requires { j < 4096 }
     ensures { result ≡ entry_of j duty }
 {
-    4 * j as u16 + duty_code(duty)
+    4 * j as u16 + duty as u16
 }
 
 // The label and the status of a note.

@@ -22,7 +22,7 @@ offer_live-requires-in-loop-j g c =
 
 pub loop-j-preserved : goal.loop-j-preserved
 loop-j-preserved g c = (
-  expanded_more g.B.RuleBook.names g.B.RuleBook.after c.args.stops.now c.args.q g.B.Row.Figures.better c.args.labels.now _
+  expanded_more g.B.RuleBook.names g.B.RuleBook.after c.args.moment.stops.now c.args.moment.quarter g.B.Row.Figures.better c.args.labels.now _
       c.loop-j.frontier c.offer_live.new.frontier c.offer_live-in-loop-j.new.frontier c.loop-j.j c.index-labels-j.result
       c.note.result c.note-in-loop-j.result c.second_duty-duty.result c.attempt-rested.result c.attempt-moved.result
       c.loop-j.invariant.0 (omega arith) c.index-labels-j.is c.note.ensures c.attempt-rested.ensures c.second_duty-duty.ensures
@@ -36,7 +36,7 @@ returns g c =
     let f = c.loop-j.frontier in
     let end : c.loop-j.j ≡ length c.args.labels.now = omega arith in
     record {
-      smallest = expanded-all g.B.RuleBook.names g.B.RuleBook.after c.args.stops.now c.args.q g.B.Row.Figures.better c.args.labels.now _
+      smallest = expanded-all g.B.RuleBook.names g.B.RuleBook.after c.args.moment.stops.now c.args.moment.quarter g.B.Row.Figures.better c.args.labels.now _
           f c.loop-j.j c.count-kept.result _ _ c.loop-j.invariant.0 end c.count-kept.ensures (search rules) c.split_at.ensures.front;
       few = omega (arith, c.loop-j.invariant.0.few, c.count-kept.ensures, end, ap length c.split_at.ensures.front);
     }

@@ -45,8 +45,8 @@ loop-t-init g c =
           ∙ ap (λ s. cond (alive c.stops-stops.result.now card.now (label_at c.stops-stops.result.now 0 0 s)) (label_at c.stops-stops.result.now 0 0 s ∷ []) []) c.row.ensures),
     )
 
-pub find_serving-requires-clause-sound : goal.find_serving-requires-clause-sound
-find_serving-requires-clause-sound g c =
+pub find_serving-requires : goal.find_serving-requires
+find_serving-requires g c =
     let card = c.args.card.now in
     turn_sound (set g card.book c.args.tour.now c.stops-stops.result.now c.stops-stops.ensures c.requires.some_stop) card.now c.args.size.width c.loop-t.invariant.1 _ c.split_at.ensures.front
 
