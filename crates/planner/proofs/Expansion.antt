@@ -1,5 +1,5 @@
 -- A layer of candidates that grows by one label, and a frontier that is offered them. Assumes nothing.
-use Rattle.std.proofs.Common.{◌≡◌, ℕ, ◌+◌, ◌*◌, ◌<◌, ◌≤◌, List, [], ◌∷◌, ◌++◌, length, get_or, take, Option, sym, ap, ◌∙◌, subst, arith}
+use Rattle.std.proofs.Common.{◌≡◌, ℕ, ◌+◌, ◌*◌, ◌<◌, ◌≤◌, List, [], ◌∷◌, ◌++◌, length, get_or, take, Option, sym, refl, ap, ◌∙◌, subst, arith}
 use Rattle.std.proofs.lemmas.List.{append_assoc, append-nil, take_all, take_more, length-take-le}
 use Rattle.frontier.specs.Cover.{SmallestCover}
 use Rattle.frontier.specs.Places.{all, kept}
@@ -68,10 +68,10 @@ module _ {R : Type 0} (names : R → ℕ → Duty → Option Violation) (after :
         }
 
     -- what is left at the front of the places
-    pub expanded-all : (f : Frontier (Label R)) (j n : ℕ) (back labels : List (Label R))
-        → Expanded names after better stops q front places f j → j ≡ length front → n ≡ length (kept f) → back ≡ all f → labels ≡ take n back
+    pub expanded-all : (f : Frontier (Label R)) (j n : ℕ) (labels : List (Label R))
+        → Expanded names after better stops q front places f j → j ≡ length front → n ≡ length (kept f) → labels ≡ take n (all f)
         → SmallestCover (Plainly better) labels (layer names after stops q 0 front)
-    expanded-all f j n back labels e end is same first =
+    expanded-all f j n labels e end is first =
         let whole : take j front ≡ front = take_all j front (omega arith) in
         subst (λ l. SmallestCover (Plainly better) labels (layer names after stops q 0 l)) whole
-        (subst (λ l. SmallestCover (Plainly better) l (layer names after stops q 0 (take j front))) (sym (first ∙ front_of f back n is same)) e.smallest)
+        (subst (λ l. SmallestCover (Plainly better) l (layer names after stops q 0 (take j front))) (sym (first ∙ front_of f (all f) n is refl)) e.smallest)

@@ -6,7 +6,6 @@
 --   going_next                one quarter on, where none of the labels serves the tour and the smallest cover is no more than k
 --   going-crowded             that cover is more than k
 --   going-ends, going-last    a label serves the tour at its last work; or none does, and the time is over
---   none_now                  nothing ends by `now`
 use Rattle.std.proofs.Common.{◌≡◌, ℕ, suc, ◌+◌, ◌*◌, ◌<◌, ◌≤◌, true, false, List, [], ◌∷◌, ◌++◌, length, get_or, Some, Option, sym, refl, ap, ◌∙◌, subst, inl, inr, arith}
 use Rattle.std.proofs.lemmas.Bool.{cases_lt}
 use Rattle.duty.specs.declared.Duty.{Duty}
@@ -43,9 +42,6 @@ module _ {R : Type 0} {names : R → ℕ → Duty → Option Violation} {after :
 
   unended_now : Unended names after stops start now (now + 0)
   unended_now ls allowed serves h = no_end_now set now ls allowed serves (omega arith)
-
-  pub none_now : NoneEnds names after better stops start now k 0
-  none_now = record { none = unended_now; few = λ u h. absurd (omega arith) }
 
   pub going-alive : (trail : List ℕ) (f : ℕ) → 1 ≤ k → Alive stops now (label_at stops 0 f start) → Going names after better stops start now k trail (label_at stops 0 f start ∷ []) 0
   going-alive trail f room alive =

@@ -1,4 +1,5 @@
-use Rattle.std.proofs.Common.{◌≡◌, length, refl, ap, ◌∙◌, arith, rules}
+use Rattle.std.proofs.Common.{◌≡◌, length, take, refl, ap, ◌∙◌, arith, rules}
+use Rattle.frontier.specs.Places.{all}
 use Rattle.planner.proofs.Expansion.{expanded_more, expanded-all}
 use Rattle.planner.proofs.expand.expand.Goals as goal
 
@@ -35,8 +36,9 @@ pub returns : goal.returns
 returns g c =
     let f = c.loop-j.frontier in
     let end : c.loop-j.j ≡ length c.args.labels.now = omega arith in
+    let first : c.split_at.result.0.now ≡ take c.count-kept.result (all f) = search rules in
     record {
       smallest = expanded-all g.B.RuleBook.names g.B.RuleBook.after c.args.moment.stops.now c.args.moment.quarter g.B.Row.Figures.better c.args.labels.now _
-          f c.loop-j.j c.count-kept.result _ _ c.loop-j.invariant.0 end c.count-kept.ensures (search rules) c.split_at.ensures.front;
-      few = omega (arith, c.loop-j.invariant.0.few, c.count-kept.ensures, end, ap length c.split_at.ensures.front);
+          f c.loop-j.j c.count-kept.result _ c.loop-j.invariant.0 end c.count-kept.ensures first;
+      few = omega (arith, c.loop-j.invariant.0.few, c.count-kept.ensures, end, ap length first);
     }
