@@ -109,6 +109,7 @@ pub fn eu() -> EuBook
 pub fn judge_by(set: RuleSet, log: &[u8]) -> Result<(usize, Option<Breach>), Refusal>
     ensures { JudgedBy (sentences set) log.now result }
 {
+    // A match, since the books of the sets are of two types.
     match set {
         RuleSet::Us7 => judge(&us7(), log),
         RuleSet::Us8 => judge(&us8(), log),

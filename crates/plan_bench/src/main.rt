@@ -15,6 +15,7 @@ use std::io::{BufRead, BufReader};
 
 // The answers to the calls under a rule set, of which each has books of a type of its own, and so an arm of its own.
 fn run_by(heap: Global, set: RuleSet, calls: &[Call]) -> Result<Vec<Answer>, AllocError> {
+    // A match, since the books of the sets are of two types.
     match set {
         RuleSet::Us7 => run_calls(heap, &us7(), calls),
         RuleSet::Us8 => run_calls(heap, &us8(), calls),

@@ -4,7 +4,7 @@ ghost use Rattle.planner.specs.Ranges.{AllInRange};
 
 use planning::Stop;
 
-// The first `count` of the stops are the tour's.
+// The first `count` of the stops are the tour's. They are fixed memory, so that a tour is copied and adding to it cannot lack any.
 #[derive(Clone, Copy)]
 pub struct Tour {
     stops: [Stop; 16],

@@ -1,4 +1,4 @@
-// The notes of a trail: which label a label came from, and by which status.
+// The notes of a trail: which label a label came from, and by which status. A note is one number, since a trail is lent as numbers of 16 bits.
 ghost use Rattle.std.specs.Prelude.{◌≡◌, ℕ, ◌<◌};
 ghost use Rattle.duty.specs.declared.Duty.{Duty};
 ghost use Rattle.planner.specs.Trail.{entry as entry_of};

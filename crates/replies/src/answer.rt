@@ -36,6 +36,7 @@ fn reply_by(
 ) -> Result<Vec<u8>, AllocError>
     ensures { IfOk result (λ reply. ((answers : List Answer) × KeptUnder set (calls_read readings.now) answers × Replied 1 readings.now answers reply.items)) }
 {
+    // A match, since the books of the sets are of two types.
     match set {
         RuleSet::Us7 => reply_under(heap, &us7(), readings),
         RuleSet::Us8 => reply_under(heap, &us8(), readings),

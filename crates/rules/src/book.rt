@@ -8,7 +8,8 @@ ghost use Rattle.rules.specs.Walk.{Allowed};
 use crate::breach::Violation;
 use duty::Duty;
 
-// The plain figures of a state, and which of two is at least as well off.
+// The plain figures of a state, and which of two is at least as well off. It has the shape of the frontier's `Covers`, and
+// stays a trait of its own: it is the rules' word, and what is said of books knows no frontier.
 pub trait Figures: Copy + Drop {
     ghost better: { Self → Self → Type 0 };
 
