@@ -3,6 +3,7 @@ ghost use Rattle.books.specs.Bounds.{ShiftSound};
 
 use crate::period::PeriodRow;
 
+// Each book has a plain state of its own; the row and its limits are what shift and day share.
 #[derive(Clone, Copy)]
 pub struct UsShift {
     row: PeriodRow,
