@@ -15,7 +15,7 @@ use Rattle.books.specs.DutyCycle.{NoWorseCycle, given_cycle, cycle_names, next_c
 use Rattle.books.specs.Tied.{moved_on}
 use Rattle.books.specs.Eights.{none_least, total_more, next_more, counts_within, decides_within}
 
-run_le : (full run : ℕ) (unbroken : Bool) → next_run full run unbroken ≤ full
+pub run_le : (full run : ℕ) (unbroken : Bool) → next_run full run unbroken ≤ full
 run_le full run unbroken = grind arith
 
 run_more : (full run run' : ℕ) (unbroken : Bool) → run ≤ run' → next_run full run unbroken ≤ next_run full run' unbroken

@@ -27,20 +27,20 @@ module _ (p : Duty → Bool) (n : ℕ) (l : List Duty) (k : ℕ) where
   pub latest-all : (P : ℕ → Type 0) → P (since_at p n l k) → (s : ℕ) → Latest p l n k s → P s
   latest-all P h s latest = subst P (latest_one p n l k (since_at p n l k) s (latest-since p n l k) latest) h
 
-  elapsed_kept : (held : ℕ) → elapsed_at p n held l k < held → (s : ℕ) → Latest p l n k s → k - s + 1 ≤ held
+  pub elapsed_kept : (held : ℕ) → elapsed_at p n held l k < held → (s : ℕ) → Latest p l n k s → k - s + 1 ≤ held
   elapsed_kept held h = latest-all (λ s. k - s + 1 ≤ held) (omega arith)
 
-  elapsed_broken : (held : ℕ) → held ≤ elapsed_at p n held l k → ((s : ℕ) → Latest p l n k s → k - s + 1 ≤ held) → ⊥
+  pub elapsed_broken : (held : ℕ) → held ≤ elapsed_at p n held l k → ((s : ℕ) → Latest p l n k s → k - s + 1 ≤ held) → ⊥
   elapsed_broken held h keeps = let kept = keeps (since_at p n l k) (latest-since p n l k) in omega arith
 
   module _ (c : Duty → Bool) (counts : c (at l k) ≡ true) (limit : ℕ) where
     one_more : count c l (since_at p n l k) (k + 1) ≡ 1 + counted p n c l k
     one_more = count_more_one c l (since_at p n l k) k (since-le p n l k) ∙ ap (λ b. cond b 1 0 + counted p n c l k) counts
 
-    counted-kept : counted p n c l k < limit → (s : ℕ) → Latest p l n k s → count c l s (k + 1) ≤ limit
+    pub counted-kept : counted p n c l k < limit → (s : ℕ) → Latest p l n k s → count c l s (k + 1) ≤ limit
     counted-kept h = latest-all (λ s. count c l s (k + 1) ≤ limit) (omega (arith, one_more))
 
-    counted_broken : limit ≤ counted p n c l k → ((s : ℕ) → Latest p l n k s → count c l s (k + 1) ≤ limit) → ⊥
+    pub counted_broken : limit ≤ counted p n c l k → ((s : ℕ) → Latest p l n k s → count c l s (k + 1) ≤ limit) → ⊥
     counted_broken h keeps = let kept = keeps (since_at p n l k) (latest-since p n l k) in omega (arith, one_more)
 
     -- the first of the rules limits the count
