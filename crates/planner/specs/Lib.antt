@@ -9,3 +9,4 @@ pub mod Ranges
 pub mod Recorded
 pub mod Toured
 pub mod Finding
+pub mod OfBooks

@@ -1,9 +1,8 @@
 // A run of calls on a new card and a new tour: the call that the promise stands on.
 ghost use Rattle.std.specs.Prelude.{◌≡◌, IfOk};
 ghost use Rattle.planner.specs.History.{fresh};
-ghost use Rattle.planner.specs.Promise.{Kept};
-ghost use Rattle.planner.specs.Standing.{AnswersPlan, AnswersCall, answer_of};
-ghost use Rattle.planner.specs.Toured.{stops_of};
+ghost use Rattle.planner.specs.OfBooks.{AnswersPlanFor, AnswersCallOn, KeptBy};
+ghost use Rattle.planner.specs.Standing.{answer_of};
 
 use crate::call::{Answer, Call, Schedule};
 use crate::card::DriverCard;
@@ -30,7 +29,7 @@ fn plan_with<B: RuleBook>(
     predecessors: usize,
     output: usize,
 ) -> Result<Answer, AllocError>
-    ensures { IfOk result (AnswersPlan B.RuleBook.names B.RuleBook.after B.Row.Figures.better (stops_of tour.now) (B.RuleBook.figures card.entry.now.book) card.entry.now.now labels predecessors output) }
+    ensures { IfOk result (AnswersPlanFor B.RuleBook B.Row.Figures card.entry.now tour.now labels predecessors output) }
 {
     let size = match ready(card, tour, labels, predecessors, output) {
         Ok(size) => size,
@@ -62,7 +61,7 @@ fn make<B: RuleBook>(
     tour: &mut Tour,
     call: Call,
 ) -> Result<Answer, AllocError>
-    ensures { IfOk result (λ a. AnswersCall B.RuleBook.names B.RuleBook.after B.Row.Figures.better B.RuleBook.sound B.RuleBook.opened B.RuleBook.lawful (B.RuleBook.figures card.entry.now.book) card.entry.now.now (stops_of tour.old) call a (B.RuleBook.figures card.exit.now.book) card.exit.now.now (stops_of tour.new)) }
+    ensures { IfOk result (λ a. AnswersCallOn B.RuleBook B.Row.Figures card.entry.now tour.old call a card.exit.now tour.new) }
 {
     match call {
         Call::Record { letter, count } => Ok(done_or_refused(card.record(letter, count))),
@@ -87,7 +86,7 @@ pub fn run_calls<B: RuleBook>(
     book: &B,
     calls: &[Call],
 ) -> Result<Vec<Answer>, AllocError>
-    ensures { IfOk result (λ answers. Kept B.RuleBook.names B.RuleBook.after B.Row.Figures.better (B.RuleBook.opened (B.RuleBook.figures book.now)) (B.RuleBook.lawful (B.RuleBook.figures book.now)) fresh calls.now answers.items) }
+    ensures { IfOk result (λ answers. KeptBy B.RuleBook B.Row.Figures book.now fresh calls.now answers.items) }
 {
     let mut card = DriverCard::new(book);
     let mut tour = Tour::new();

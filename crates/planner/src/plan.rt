@@ -1,8 +1,8 @@
 // The plan: the earliest end of a lawful schedule that serves the tour.
 ghost use Rattle.std.specs.Prelude.{◌≡◌, ℕ, ◌+◌, ◌*◌, ◌<◌, ◌≤◌, length, replicate};
-ghost use Rattle.planning.specs.Moves.{label_at};
 ghost use Rattle.planner.specs.History.{span as span_between};
-ghost use Rattle.planner.specs.Plans.{Solved, OutputLeft, Planned, Left, Sized};
+ghost use Rattle.planner.specs.OfBooks.{start_label, SolvedFor, PlannedFor};
+ghost use Rattle.planner.specs.Plans.{OutputLeft, Left, Sized};
 ghost use Rattle.planner.specs.Toured.{stops_of};
 
 use crate::card::DriverCard;
@@ -36,7 +36,7 @@ fn solve<B: RuleBook>(
     requires trail_within { size.span * size.width ≤ length trail.old }
     requires room { size.span ≤ length output.old }
     requires horizon { card.now.now + size.span ≤ 2688 }
-    ensures value { Solved B.RuleBook.names B.RuleBook.after B.Row.Figures.better (stops_of tour.now) (B.RuleBook.figures card.entry.now.book) card.entry.now.now size.width size.span output.new result }
+    ensures value { SolvedFor B.RuleBook B.Row.Figures card.entry.now tour.now size output.new result }
     ensures behind { OutputLeft card.entry.now.now result output.old output.new }
 {
     let (front, back) = labels.split_at_mut(size.width);
@@ -85,9 +85,9 @@ pub fn plan<B: RuleBook>(
     predecessors: &mut [u16],
     output: &mut [u8],
 ) -> Result<usize, Refusal>
-    ensures value { Planned B.RuleBook.names B.RuleBook.after B.Row.Figures.better (stops_of tour.now) (B.RuleBook.figures card.entry.now.book) card.entry.now.now (length labels.old) (length predecessors.old) output.new result }
+    ensures value { PlannedFor B.RuleBook B.Row.Figures card.entry.now tour.now (length labels.old) (length predecessors.old) output.new result }
     ensures behind { OutputLeft card.entry.now.now result output.old output.new }
-    ensures sheet { Left result labels.old labels.new (replicate (length labels.old) (label_at (stops_of tour.now) 0 0 (B.RuleBook.figures card.entry.now.book))) }
+    ensures sheet { Left result labels.old labels.new (replicate (length labels.old) (start_label B.RuleBook card.entry.now tour.now)) }
     ensures trail { Left result predecessors.old predecessors.new (replicate (length predecessors.old) 0) }
 {
     let size = ready(card, tour, labels.len(), predecessors.len(), output.len())?;

@@ -2,7 +2,7 @@
 ghost use Rattle.std.specs.Prelude.{◌≡◌, ℕ, ◌+◌, ◌*◌, ◌<◌, ◌≤◌, [], ◌∷◌, length, take, if◌then◌else◌};
 ghost use Rattle.planning.specs.Moves.{label_at};
 ghost use Rattle.planner.specs.Candidates.{alive};
-ghost use Rattle.planner.specs.Outcome.{Searched};
+ghost use Rattle.planner.specs.OfBooks.{SearchedFor};
 ghost use Rattle.planner.specs.Toured.{stops_of};
 
 use crate::card::DriverCard;
@@ -68,7 +68,7 @@ pub(crate) fn search<B: RuleBook>(
     requires sheet { (length front.old ≡ size.width) × (2 * size.width ≤ length back.old) }
     requires trail_within { size.span * size.width ≤ length trail.old }
     requires horizon { card.now.now + size.span ≤ 2688 }
-    ensures { Searched B.RuleBook.names B.RuleBook.after B.Row.Figures.better (stops_of tour.now) (B.RuleBook.figures card.entry.now.book) card.entry.now.now size.width size.span trail.new result }
+    ensures { SearchedFor B.RuleBook B.Row.Figures card.entry.now tour.now size trail.new result }
 {
     let Size { width, span } = size;
     let stops = tour.stops();

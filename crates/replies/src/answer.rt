@@ -2,7 +2,8 @@
 ghost use Rattle.std.specs.Prelude.{List, IfOk};
 ghost use Rattle.lines.specs.Texts.{calls_read};
 ghost use Rattle.planner.specs.History.{fresh};
-ghost use Rattle.planner.specs.Promise.{Answer, Kept};
+ghost use Rattle.planner.specs.OfBooks.{KeptBy};
+ghost use Rattle.planner.specs.Promise.{Answer};
 ghost use Rattle.replies.specs.Promised.{KeptUnder, Reply, Answered};
 ghost use Rattle.replies.specs.Replies.{Replied};
 
@@ -21,7 +22,7 @@ fn reply_under<B: RuleBook>(
     book: &B,
     readings: &[Result<Line, Refusal>],
 ) -> Result<Vec<u8>, AllocError>
-    ensures { IfOk result (λ reply. ((answers : List Answer) × Kept B.RuleBook.names B.RuleBook.after B.Row.Figures.better (B.RuleBook.opened (B.RuleBook.figures book.now)) (B.RuleBook.lawful (B.RuleBook.figures book.now)) fresh (calls_read readings.now) answers × Replied 1 readings.now answers reply.items)) }
+    ensures { IfOk result (λ reply. ((answers : List Answer) × KeptBy B.RuleBook B.Row.Figures book.now fresh (calls_read readings.now) answers × Replied 1 readings.now answers reply.items)) }
 {
     let calls = calls_of(heap, readings)?;
     let answers = run_calls(heap, book, calls.as_slice())?;

@@ -1,6 +1,6 @@
 // Recording: one status for some quarters, all of them or none.
 ghost use Rattle.std.specs.Prelude.{◌≡◌, ◌+◌, ◌≤◌};
-ghost use Rattle.planner.specs.Recorded.{Carried, Recorded};
+ghost use Rattle.planner.specs.OfBooks.{CarriedBy, RecordedOn};
 
 use super::DriverCard;
 use duty::{Duty, HORIZON};
@@ -11,7 +11,7 @@ use rules::refusal::Refusal;
 // Steps the book through the quarters of one status, up to the first breach.
 fn carry<B: RuleBook>(book: &mut B, from: usize, count: usize, duty: Duty) -> Option<Breach>
     requires { from + count ≤ 2688 }
-    ensures { Carried B.RuleBook.names B.RuleBook.after (B.RuleBook.figures book.old) from count duty (B.RuleBook.figures book.new) result }
+    ensures { CarriedBy B.RuleBook book.old from count duty book.new result }
 {
     for passed in 0..count {
         let quarter = from + passed;
@@ -51,7 +51,7 @@ impl<B: RuleBook> DriverCard<B> {
 
     // Adds so many quarters of the letter's status, or none where it is refused.
     pub fn record(&mut self, letter: u8, count: usize) -> Result<(), Refusal>
-        ensures { Recorded B.RuleBook.names B.RuleBook.after (B.RuleBook.figures self.entry.now.book) self.entry.now.now letter count (B.RuleBook.figures self.exit.now.book) self.exit.now.now result }
+        ensures { RecordedOn B.RuleBook self.entry.now letter count self.exit.now result }
     {
         let duty = Duty::try_from(letter)?;
         if count == 0 || count > HORIZON - self.now {
