@@ -1,5 +1,5 @@
 -- From what a search solved to what plan answers, and what it leaves in the working buffers.
-use Rattle.std.proofs.Common.{◌≡◌, ℕ, ◌*◌, List, length, Ok, Err, Option, Result, sym, ap, subst, inl, inr, ⊎_elim, arith}
+use Rattle.std.proofs.Common.{◌≡◌, ℕ, ◌*◌, List, length, Ok, Err, Option, Result, ap, subst, inl, inr, ⊎_elim, arith}
 use Rattle.duty.specs.declared.Duty.{Duty}
 use Rattle.rules.specs.declared.breach.Violation.{Violation}
 use Rattle.rules.specs.declared.refusal.Refusal.{Refusal}
