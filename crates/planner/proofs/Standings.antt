@@ -97,7 +97,7 @@ module _ {R : Type 0} (names : R → ℕ → Duty → Option Violation) (after :
         refused (inr (inr s)) =
             inr (s.status, s.spelt, inr ((refl, ap number s.answer), s.fitting.0, omega (arith, stands.at, s.fitting.1), unlawful letter count why s))
 
-    pub standing_add : (stop : Stop) (stops' : List Stop) (r : Result (Unit {0}) Refusal) → PutLast stops stop stops' r → (h' : History) × Answers names after better opened lawful h (Add stop.drive stop.service stop.opens stop.closes) (answer_of r) h' × StandsFor names after opened row now stops' h'
+    pub standing_add : (stop : Stop) (stops' : List Stop) (r : Result (Unit {0}) Refusal) → PutLast stops stop stops' r → (h' : History) × Answers names after better opened lawful h (Add stop) (answer_of r) h' × StandsFor names after opened row now stops' h'
     standing_add stop stops' (Ok u) a =
         let many : length stops ≡ length h.stops = ap length stands.tour in (
           record { log = h.log; stops = h.stops ++ stop ∷ [] },

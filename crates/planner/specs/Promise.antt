@@ -104,7 +104,7 @@ module _ {R : Type 0} (names : R → ℕ → Duty → Option Violation) (after :
 
   abbrev pub Answers : History → Call → Answer → History → Type 0
   Answers h (Record letter count) a h' = Recording h letter count a h'
-  Answers h (Add drive service opens closes) a h' = Adding h (record { drive = drive; service = service; opens = opens; closes = closes }) a h'
+  Answers h (Add stop) a h' = Adding h stop a h'
   Answers h Drop a h' = Dropping h a h'
   Answers h (Plan labels predecessors output) a h' = Planning h labels predecessors output a h'
 

@@ -1,6 +1,5 @@
 -- What becomes of a tour. Assumes nothing.
 --   stops_of tour                 its stops
---   stop_of ..                    the stop with these fields
 --   RefusedStop stops stop why    the refusals of a new stop, in their order: no place for it, then a field out of range
 --   PutLast before stop after r   the answer r to a new stop: it is put last, or refused and the stops stay
 --   TakenOff before after r       the last stop is taken off, or there is none
@@ -13,9 +12,6 @@ use Rattle.planner.specs.Ranges.{InRange}
 
 abbrev pub stops_of : Tour → List Stop
 stops_of tour = take tour.count tour.stops
-
-abbrev pub stop_of : ℕ → ℕ → ℕ → ℕ → Stop
-stop_of drive service opens closes = record { drive = drive; service = service; opens = opens; closes = closes }
 
 abbrev pub RefusedStop : List Stop → Stop → Refusal → Type 0
 RefusedStop stops stop why =

@@ -1,4 +1,5 @@
 // The calls on a card and a tour, and their answers.
+use planning::Stop;
 use rules::refusal::Refusal;
 
 // One call, with what it is passed; of plan's buffers the lengths.
@@ -8,12 +9,7 @@ pub enum Call {
         letter: u8,
         count: usize,
     },
-    Add {
-        drive: u16,
-        service: u16,
-        opens: u16,
-        closes: u16,
-    },
+    Add(Stop),
     Drop,
     Plan {
         labels: usize,

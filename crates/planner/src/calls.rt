@@ -65,12 +65,7 @@ fn make<B: RuleBook>(
 {
     match call {
         Call::Record { letter, count } => Ok(done_or_refused(card.record(letter, count))),
-        Call::Add {
-            drive,
-            service,
-            opens,
-            closes,
-        } => Ok(done_or_refused(tour.add(drive, service, opens, closes))),
+        Call::Add(stop) => Ok(done_or_refused(tour.add(stop))),
         Call::Drop => Ok(done_or_refused(tour.drop_last())),
         Call::Plan {
             labels,

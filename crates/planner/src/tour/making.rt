@@ -1,7 +1,7 @@
 // Making a tour: stops are put last and taken off again.
 ghost use Rattle.std.specs.Prelude.{◌≡◌, [], Decides};
 ghost use Rattle.planner.specs.Ranges.{InRange};
-ghost use Rattle.planner.specs.Toured.{stops_of, stop_of, PutLast, TakenOff};
+ghost use Rattle.planner.specs.Toured.{stops_of, PutLast, TakenOff};
 
 use super::Tour;
 use planning::Stop;
@@ -35,18 +35,12 @@ impl Tour {
     }
 
     // Puts a stop last; refused where there are 16 stops, or where a field is out of range.
-    pub fn add(&mut self, drive: u16, service: u16, opens: u16, closes: u16) -> Result<(), Refusal>
-        ensures { PutLast (stops_of self.old) (stop_of drive service opens closes) (stops_of self.new) result }
+    pub fn add(&mut self, stop: Stop) -> Result<(), Refusal>
+        ensures { PutLast (stops_of self.old) stop (stops_of self.new) result }
     {
         if self.count == self.stops.len() {
             return Err(Refusal::TourFull);
         }
-        let stop = Stop {
-            drive,
-            service,
-            opens,
-            closes,
-        };
         if !in_range(stop) {
             return Err(Refusal::Field);
         }

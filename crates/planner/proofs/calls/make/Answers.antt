@@ -2,7 +2,7 @@ use Rattle.std.proofs.Common.{◌+◌, ◌<◌, ◌≤◌, length, sym, subst, s
 use Rattle.planner.specs.History.{History, last_stop}
 use Rattle.planner.specs.Promise.{Answers}
 use Rattle.planner.specs.Standing.{StandsFor, AnswersPlan}
-use Rattle.planner.specs.Toured.{stops_of, stop_of}
+use Rattle.planner.specs.Toured.{stops_of}
 use Rattle.planner.proofs.PlanStandings.{standing_plan, made_more}
 use Rattle.planner.proofs.Spans.{last_within}
 use Rattle.planner.proofs.Standings.{standing_record, standing_add, standing_drop}
@@ -23,7 +23,7 @@ returns-in-Add g c =
     let row = g.B.RuleBook.figures c.args.card.now.book in
     subst₂ (λ k a. (h' : History) × Answers g.B.RuleBook.names g.B.RuleBook.after g.B.Row.Figures.better (g.B.RuleBook.opened s) (g.B.RuleBook.lawful s) h k a h' × StandsFor g.B.RuleBook.names g.B.RuleBook.after (g.B.RuleBook.opened s) row c.args.card.now.now (stops_of c.add.new.self) h')
     (sym c.in-Add.is) (sym c.done_or_refused-in-Add.ensures)
-    (standing_add g.B.RuleBook.names g.B.RuleBook.after g.B.Row.Figures.better (g.B.RuleBook.opened s) (g.B.RuleBook.lawful s) (λ l short. g.met.B.RuleBook.judged s l ss short) row c.args.card.now.now (stops_of c.args.tour.now) h stands (stop_of c.in-Add.drive c.in-Add.service c.in-Add.opens c.in-Add.closes) (stops_of c.add.new.self) c.add.result c.add.ensures)
+    (standing_add g.B.RuleBook.names g.B.RuleBook.after g.B.Row.Figures.better (g.B.RuleBook.opened s) (g.B.RuleBook.lawful s) (λ l short. g.met.B.RuleBook.judged s l ss short) row c.args.card.now.now (stops_of c.args.tour.now) h stands c.in-Add.stop (stops_of c.add.new.self) c.add.result c.add.ensures)
 
 pub returns-in-Drop : goal.returns-in-Drop
 returns-in-Drop g c =
