@@ -5,6 +5,7 @@ use books::sets::eu;
 use lines::reading::plan_call;
 use planner::call::{Answer, Call, Schedule};
 use planner::calls::run_calls;
+use planning::Stop;
 use replies::runs::{Run, runs_of};
 use std::io;
 
@@ -33,12 +34,12 @@ fn print_answer(rt: &HostRuntime, answer: &Answer) -> io::Result<()> {
 
 fn main(rt: HostRuntime) -> io::Result<()> {
     let calls = [
-        Call::Add {
+        Call::Add(Stop {
             drive: 36,
             service: 2,
             opens: 0,
             closes: 39,
-        },
+        }),
         plan_call(),
     ];
     for answer in run_calls(rt.alloc(), &eu(), &calls)?.iter() {

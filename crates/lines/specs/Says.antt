@@ -15,22 +15,22 @@ use Rattle.lines.specs.declared.line.Line.TheVariants as ask
 
 -- a plan's sheet of labels, its trail and its output
 abbrev pub plan_call : Call
-plan_call = Plan 144 18432 384
+plan_call = Plan (record { labels = 144; predecessors = 18432; output = 384 })
 
 abbrev pub spelled : Line → List ℕ
 spelled (ask.Rules set) = codes "rules," ++ set_name set
 spelled (ask.Call (Record letter count)) = codes "done," ++ (letter ∷ 44 ∷ decimal count)
-spelled (ask.Call (Add drive service opens closes)) =
-    codes "stop," ++ (decimal drive ++ 44 ∷ (decimal service ++ 44 ∷ (decimal opens ++ 44 ∷ decimal closes)))
+spelled (ask.Call (Add stop)) =
+    codes "stop," ++ (decimal stop.drive ++ 44 ∷ (decimal stop.service ++ 44 ∷ (decimal stop.opens ++ 44 ∷ decimal stop.closes)))
 spelled (ask.Call Drop) = codes "drop"
-spelled (ask.Call (Plan labels predecessors output)) = codes "plan"
+spelled (ask.Call (Plan buffers)) = codes "plan"
 
 abbrev pub Fits : ℕ → Line → Type 0
 Fits place (ask.Rules set) = place ≡ 1
 Fits place (ask.Call (Record letter count)) = (letter ≢ 44) × (count ≤ 9999)
-Fits place (ask.Call (Add drive service opens closes)) = (drive ≤ 9999) × (service ≤ 9999) × (opens ≤ 9999) × (closes ≤ 9999)
+Fits place (ask.Call (Add stop)) = (stop.drive ≤ 9999) × (stop.service ≤ 9999) × (stop.opens ≤ 9999) × (stop.closes ≤ 9999)
 Fits place (ask.Call Drop) = Unit {0}
-Fits place (ask.Call (Plan labels predecessors output)) = Plan labels predecessors output ≡ plan_call
+Fits place (ask.Call (Plan buffers)) = Plan buffers ≡ plan_call
 
 pub record Says (place : ℕ) (line : List ℕ) (x : Line) : Type 0 where
   pub fits : Fits place x

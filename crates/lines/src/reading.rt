@@ -6,18 +6,19 @@ use crate::line::Line;
 use books::sets::RuleSet;
 use fields::cuts::{cut_at, single};
 use fields::numbers::{leading_number, read_number};
-use planner::call::Call;
+use planner::call::{Buffers, Call};
+use planning::Stop;
 use rules::refusal::Refusal;
 
 // The call that plans, with the lengths of its buffers: the sheet of labels, the trail and the output.
 pub fn plan_call() -> Call
     ensures { result ≡ plan_call }
 {
-    Call::Plan {
+    Call::Plan(Buffers {
         labels: 144,
         predecessors: 18432,
         output: 384,
-    }
+    })
 }
 
 // What the line `done` with these fields says.
@@ -55,12 +56,12 @@ fn read_stop(fields: &[u8]) -> Result<Line, Refusal>
     let Some(closes) = read_number(closes) else {
         return Err(Refusal::Spelling);
     };
-    Ok(Line::Call(Call::Add {
+    Ok(Line::Call(Call::Add(Stop {
         drive,
         service,
         opens,
         closes,
-    }))
+    })))
 }
 
 // What the line `rules` with this name says at that place of the text.

@@ -1,6 +1,7 @@
 // The calls that a line spells: `SET LABELS REPEAT`, and then a stop a word, `DRIVE,SERVICE,OPENS,CLOSES`.
 use duty::HORIZON;
-use planner::call::Call;
+use planner::call::{Buffers, Call};
+use planning::Stop;
 use std::alloc::{AllocError, Global};
 
 // The number that is the line's word at `place`.
@@ -8,12 +9,12 @@ fn number_at(line: &str, place: usize) -> Option<u16> {
     line.split_whitespace().nth(place)?.parse::<u16>().ok()
 }
 
-// The call that adds the stop that a word spells.
-fn stop_call(word: &str) -> Option<Call> {
+// The stop that a word spells.
+fn stop_of(word: &str) -> Option<Stop> {
     let (drive, rest) = word.split_once(',')?;
     let (service, rest) = rest.split_once(',')?;
     let (opens, closes) = rest.split_once(',')?;
-    Some(Call::Add {
+    Some(Stop {
         drive: drive.parse::<u16>().ok()?,
         service: service.parse::<u16>().ok()?,
         opens: opens.parse::<u16>().ok()?,
@@ -24,21 +25,21 @@ fn stop_call(word: &str) -> Option<Call> {
 // The call that plans with so many labels, and with buffers that are large enough for any tour.
 fn plan_call(labels: u16) -> Call {
     let labels = usize::from(labels);
-    Call::Plan {
+    Call::Plan(Buffers {
         labels,
         predecessors: labels / 3 * HORIZON,
         output: HORIZON,
-    }
+    })
 }
 
 // The calls that add the line's stops; nothing where a word is no stop.
 fn stop_calls(heap: Global, line: &str) -> Result<Option<Vec<Call>>, AllocError> {
     let mut calls = Vec::new(heap);
     for word in line.split_whitespace().skip(3) {
-        let Some(call) = stop_call(word) else {
+        let Some(stop) = stop_of(word) else {
             return Ok(None);
         };
-        calls.push(call)?;
+        calls.push(Call::Add(stop))?;
     }
     Ok(Some(calls))
 }

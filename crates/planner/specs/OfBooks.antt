@@ -17,6 +17,7 @@ use Rattle.rules.specs.declared.breach.Breach.{Breach}
 use Rattle.rules.specs.declared.refusal.Refusal.{Refusal}
 use Rattle.planning.specs.declared.Label.{Label}
 use Rattle.planning.specs.Moves.{label_at}
+use Rattle.planner.specs.declared.call.Buffers.{Buffers}
 use Rattle.planner.specs.declared.call.Call.{Call}
 use Rattle.planner.specs.declared.card.DriverCard.{DriverCard}
 use Rattle.planner.specs.declared.search.End.{End}
@@ -51,9 +52,9 @@ abbrev pub PlannedFor : {B R : Type 0} → Book B R → Better R → DriverCard 
 PlannedFor book rows card tour labels predecessors out r =
     Planned book.names book.after rows.better (stops_of tour) (book.figures card.book) card.now labels predecessors out r
 
-abbrev pub AnswersPlanFor : {B R : Type 0} → Book B R → Better R → DriverCard B → Tour → ℕ → ℕ → ℕ → Answer → Type 0
-AnswersPlanFor book rows card tour labels predecessors output a =
-    AnswersPlan book.names book.after rows.better (stops_of tour) (book.figures card.book) card.now labels predecessors output a
+abbrev pub AnswersPlanFor : {B R : Type 0} → Book B R → Better R → DriverCard B → Tour → Buffers → Answer → Type 0
+AnswersPlanFor book rows card tour buffers a =
+    AnswersPlan book.names book.after rows.better (stops_of tour) (book.figures card.book) card.now buffers a
 
 abbrev pub AnswersCallOn : {B R : Type 0} → Book B R → Better R → DriverCard B → Tour → Call → Answer → DriverCard B → Tour → Type 0
 AnswersCallOn book rows card tour call a card' tour' =

@@ -16,6 +16,7 @@ use Rattle.rules.specs.Refusals.{number}
 use Rattle.rules.specs.Walk.{Allowed}
 use Rattle.planning.specs.declared.Stop.{Stop}
 use Rattle.planning.specs.Serving.{Serves}
+use Rattle.planner.specs.declared.call.Buffers.{Buffers}
 use Rattle.planner.specs.declared.size.Size.{Size}
 use Rattle.planner.specs.History.{width, span}
 use Rattle.planner.specs.Outcome.{Few, FindsNone}
@@ -35,10 +36,10 @@ pub record Ready (stops : List Stop) (now labels predecessors output : ℕ) : Ty
   pub room : span stops now ≤ output
 
 -- the width and the span, or the refusal
-abbrev pub Sized : List Stop → ℕ → ℕ → ℕ → ℕ → Result Size Refusal → Type 0
-Sized stops now labels predecessors output (Ok size) =
-    Ready stops now labels predecessors output × (size.width ≡ width labels) × (size.span ≡ span stops now)
-Sized stops now labels predecessors output (Err why) = Unready stops now labels predecessors output why
+abbrev pub Sized : List Stop → ℕ → Buffers → Result Size Refusal → Type 0
+Sized stops now b (Ok size) =
+    Ready stops now b.labels b.predecessors b.output × (size.width ≡ width b.labels) × (size.span ≡ span stops now)
+Sized stops now b (Err why) = Unready stops now b.labels b.predecessors b.output why
 
 pub record Schedule {R : Type 0} (names : R → ℕ → Duty → Option Violation) (after : R → ℕ → Duty → R) (better : R → R → Type 0) (stops : List Stop) (start : R) (now k : ℕ) (out : List ℕ) (e : ℕ) : Type 0 where
   pub letters : List Duty

@@ -16,6 +16,7 @@ use Rattle.rules.specs.Refusals.{number}
 use Rattle.rules.specs.Walk.{led}
 use Rattle.planning.specs.declared.Stop.{Stop}
 use Rattle.planning.specs.Labels.{Needed}
+use Rattle.planner.specs.declared.call.Buffers.{Buffers}
 use Rattle.planner.specs.declared.call.Call.{Call}
 use Rattle.planner.specs.declared.call.Call.TheVariants.{Record, Add, Drop, Plan}
 use Rattle.planner.specs.declared.call.Schedule.{Schedule}
@@ -94,19 +95,19 @@ module _ {R : Type 0} (names : R → ℕ → Duty → Option Violation) (after :
     pub ten : (RefusedWith 11 a → ⊥) → (RefusedWith 10 a → Infeasible h) × (Infeasible h → RefusedWith 10 a)
 
   -- plan: the first of 6 to 9 that applies; else an end, 10 or 11
-  abbrev pub Planning : History → ℕ → ℕ → ℕ → Answer → History → Type 0
-  Planning h labels predecessors output (Ok None) h' = ⊥
-  Planning h labels predecessors output (Err r) h' =
-      (h' ≡ h) × (Unready h.stops (now_of h) labels predecessors output r
-      ⊎ (Ready h.stops (now_of h) labels predecessors output × ((number r ≡ 10) ⊎ (number r ≡ 11)) × Exactly h (width labels) (Err r)))
-  Planning h labels predecessors output (Ok (Some schedule)) h' =
-      (h' ≡ h) × Ready h.stops (now_of h) labels predecessors output × PlannedEnd h schedule.end (vec_items schedule.letters) × Exactly h (width labels) (Ok (Some schedule))
+  abbrev pub Planning : History → Buffers → Answer → History → Type 0
+  Planning h b (Ok None) h' = ⊥
+  Planning h b (Err r) h' =
+      (h' ≡ h) × (Unready h.stops (now_of h) b.labels b.predecessors b.output r
+      ⊎ (Ready h.stops (now_of h) b.labels b.predecessors b.output × ((number r ≡ 10) ⊎ (number r ≡ 11)) × Exactly h (width b.labels) (Err r)))
+  Planning h b (Ok (Some schedule)) h' =
+      (h' ≡ h) × Ready h.stops (now_of h) b.labels b.predecessors b.output × PlannedEnd h schedule.end (vec_items schedule.letters) × Exactly h (width b.labels) (Ok (Some schedule))
 
   abbrev pub Answers : History → Call → Answer → History → Type 0
   Answers h (Record letter count) a h' = Recording h letter count a h'
   Answers h (Add stop) a h' = Adding h stop a h'
   Answers h Drop a h' = Dropping h a h'
-  Answers h (Plan labels predecessors output) a h' = Planning h labels predecessors output a h'
+  Answers h (Plan b) a h' = Planning h b a h'
 
   abbrev pub Kept : History → List Call → List Answer → Type 0
   Kept h [] [] = Unit {0}

@@ -10,6 +10,7 @@ use Rattle.rules.specs.declared.refusal.Refusal.{Refusal}
 use Rattle.rules.specs.Refusals.{number}
 use Rattle.rules.specs.Walk.{led, Allowed}
 use Rattle.planning.specs.declared.Stop.{Stop}
+use Rattle.planner.specs.declared.call.Buffers.{Buffers}
 use Rattle.planner.specs.declared.call.Call.{Call}
 use Rattle.planner.specs.History.{History, width, span}
 use Rattle.planner.specs.Outcome.{NoneEnds, Crowds}
@@ -26,13 +27,13 @@ abbrev pub answer_of : Result (Unit {0}) Refusal → Answer
 answer_of (Ok u) = Ok None
 answer_of (Err why) = Err why
 
-abbrev pub AnswersPlan : {R : Type 0} → (R → ℕ → Duty → Option Violation) → (R → ℕ → Duty → R) → (R → R → Type 0) → List Stop → R → ℕ → ℕ → ℕ → ℕ → Answer → Type 0
-AnswersPlan names after better stops start now labels predecessors output (Ok None) = ⊥
-AnswersPlan names after better stops start now labels predecessors output (Err why) =
-    Unready stops now labels predecessors output why
-    ⊎ (Ready stops now labels predecessors output × (((number why ≡ 10) × NoneEnds names after better stops start now (width labels) (span stops now)) ⊎ ((number why ≡ 11) × Crowds names after better stops start now (width labels) (span stops now))))
-AnswersPlan names after better stops start now labels predecessors output (Ok (Some s)) =
-    Ready stops now labels predecessors output × ((out : List ℕ) × Schedule names after better stops start now (width labels) out s.end × (vec_items s.letters ≡ take (s.end - now) out))
+abbrev pub AnswersPlan : {R : Type 0} → (R → ℕ → Duty → Option Violation) → (R → ℕ → Duty → R) → (R → R → Type 0) → List Stop → R → ℕ → Buffers → Answer → Type 0
+AnswersPlan names after better stops start now b (Ok None) = ⊥
+AnswersPlan names after better stops start now b (Err why) =
+    Unready stops now b.labels b.predecessors b.output why
+    ⊎ (Ready stops now b.labels b.predecessors b.output × (((number why ≡ 10) × NoneEnds names after better stops start now (width b.labels) (span stops now)) ⊎ ((number why ≡ 11) × Crowds names after better stops start now (width b.labels) (span stops now))))
+AnswersPlan names after better stops start now b (Ok (Some s)) =
+    Ready stops now b.labels b.predecessors b.output × ((out : List ℕ) × Schedule names after better stops start now (width b.labels) out s.end × (vec_items s.letters ≡ take (s.end - now) out))
 
 abbrev pub AnswersCall : {R : Type 0} → (R → ℕ → Duty → Option Violation) → (R → ℕ → Duty → R) → (R → R → Type 0) → (R → Type 0) → (R → R) → (R → List Duty → Type 0) → R → ℕ → List Stop → Call → Answer → R → ℕ → List Stop → Type 0
 AnswersCall {R} names after better sound opened lawful row now stops call a row' now' stops' =

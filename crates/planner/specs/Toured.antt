@@ -3,7 +3,7 @@
 --   RefusedStop stops stop why    the refusals of a new stop, in their order: no place for it, then a field out of range
 --   PutLast before stop after r   the answer r to a new stop: it is put last, or refused and the stops stay
 --   TakenOff before after r       the last stop is taken off, or there is none
-use Rattle.std.specs.Prelude.{◌≡◌, ℕ, ◌<◌, ◌⊎◌, List, [], ◌∷◌, ◌++◌, length, take, Ok, Err, Result}
+use Rattle.std.specs.Prelude.{◌≡◌, ◌<◌, ◌⊎◌, List, [], ◌∷◌, ◌++◌, length, take, Ok, Err, Result}
 use Rattle.rules.specs.declared.refusal.Refusal.{Refusal}
 use Rattle.rules.specs.Refusals.{number}
 use Rattle.planning.specs.declared.Stop.{Stop}

@@ -2,20 +2,21 @@
 use planning::Stop;
 use rules::refusal::Refusal;
 
-// One call, with what it is passed; of plan's buffers the lengths.
+// The lengths of the buffers of a plan.
+#[derive(Clone, Copy, PartialEq, Eq, Debug)]
+pub struct Buffers {
+    pub labels: usize,
+    pub predecessors: usize,
+    pub output: usize,
+}
+
+// One call, with what it is passed.
 #[derive(Clone, Copy)]
 pub enum Call {
-    Record {
-        letter: u8,
-        count: usize,
-    },
+    Record { letter: u8, count: usize },
     Add(Stop),
     Drop,
-    Plan {
-        labels: usize,
-        predecessors: usize,
-        output: usize,
-    },
+    Plan(Buffers),
 }
 
 // What a plan gives: its end, and the letters of its quarters.

@@ -4,7 +4,7 @@ ghost use Rattle.planner.specs.History.{fresh};
 ghost use Rattle.planner.specs.OfBooks.{AnswersPlanFor, AnswersCallOn, KeptBy};
 ghost use Rattle.planner.specs.Standing.{answer_of};
 
-use crate::call::{Answer, Call, Schedule};
+use crate::call::{Answer, Buffers, Call, Schedule};
 use crate::card::DriverCard;
 use crate::plan::{plan, ready};
 use crate::search::first_label;
@@ -25,17 +25,15 @@ fn plan_with<B: RuleBook>(
     heap: Global,
     card: &DriverCard<B>,
     tour: &Tour,
-    labels: usize,
-    predecessors: usize,
-    output: usize,
+    buffers: Buffers,
 ) -> Result<Answer, AllocError>
-    ensures { IfOk result (AnswersPlanFor B.RuleBook B.Row.Figures card.entry.now tour.now labels predecessors output) }
+    ensures { IfOk result (AnswersPlanFor B.RuleBook B.Row.Figures card.entry.now tour.now buffers) }
 {
-    let size = match ready(card, tour, labels, predecessors, output) {
+    let size = match ready(card, tour, buffers) {
         Ok(size) => size,
         Err(why) => return Ok(Err(why)),
     };
-    let mut sheet = vec![in heap; first_label(tour.stops(), card.row()); labels]?;
+    let mut sheet = vec![in heap; first_label(tour.stops(), card.row()); buffers.labels]?;
     let mut trail = vec![in heap; 0u16; size.width * size.span]?;
     let mut letters = vec![in heap; 0u8; size.span]?;
     let planned = plan(
@@ -67,11 +65,7 @@ fn make<B: RuleBook>(
         Call::Record { letter, count } => Ok(done_or_refused(card.record(letter, count))),
         Call::Add(stop) => Ok(done_or_refused(tour.add(stop))),
         Call::Drop => Ok(done_or_refused(tour.drop_last())),
-        Call::Plan {
-            labels,
-            predecessors,
-            output,
-        } => plan_with(heap, card, tour, labels, predecessors, output),
+        Call::Plan(buffers) => plan_with(heap, card, tour, buffers),
     }
 }
 

@@ -5,6 +5,7 @@ ghost use Rattle.planner.specs.OfBooks.{start_label, SolvedFor, PlannedFor};
 ghost use Rattle.planner.specs.Plans.{OutputLeft, Left, Sized};
 ghost use Rattle.planner.specs.Toured.{stops_of};
 
+use crate::call::Buffers;
 use crate::card::DriverCard;
 use crate::letters::write_letters;
 use crate::search::{End, first_label, search};
@@ -52,12 +53,15 @@ const MOST_LABELS: usize = 12288;
 pub(crate) fn ready<B: RuleBook>(
     card: &DriverCard<B>,
     tour: &Tour,
-    labels: usize,
-    predecessors: usize,
-    output: usize,
+    buffers: Buffers,
 ) -> Result<Size, Refusal>
-    ensures { Sized (stops_of tour.now) card.entry.now.now labels predecessors output result }
+    ensures { Sized (stops_of tour.now) card.entry.now.now buffers result }
 {
+    let Buffers {
+        labels,
+        predecessors,
+        output,
+    } = buffers;
     let stops = tour.stops();
     if stops.is_empty() {
         return Err(Refusal::NoStop);
@@ -90,7 +94,12 @@ pub fn plan<B: RuleBook>(
     ensures sheet { Left result labels.old labels.new (replicate (length labels.old) (start_label B.RuleBook card.entry.now tour.now)) }
     ensures trail { Left result predecessors.old predecessors.new (replicate (length predecessors.old) 0) }
 {
-    let size = ready(card, tour, labels.len(), predecessors.len(), output.len())?;
+    let buffers = Buffers {
+        labels: labels.len(),
+        predecessors: predecessors.len(),
+        output: output.len(),
+    };
+    let size = ready(card, tour, buffers)?;
     let answer = solve(card, tour, size, labels, predecessors, output);
     let first = first_label(tour.stops(), card.row());
     // `fill` asks that the row's clone cannot fail, which generic code does not know.

@@ -1,6 +1,7 @@
 // The answers to a list of calls, as lines: `done`, `end,END,LETTERS`, `refused,NUMBER` or `refused,3,QUARTER,RULE,LAYER`.
-use planner::call::{Answer, Call, Schedule};
+use planner::call::{Answer, Buffers, Call, Schedule};
 use planner::calls::run_calls;
+use planning::Stop;
 use rules::book::RuleBook;
 use std::io;
 
@@ -36,18 +37,18 @@ pub(crate) fn record(letter: u8, count: usize) -> Call {
 }
 
 pub(crate) fn add(drive: u16, service: u16, opens: u16, closes: u16) -> Call {
-    Call::Add {
+    Call::Add(Stop {
         drive,
         service,
         opens,
         closes,
-    }
+    })
 }
 
 pub(crate) fn plan(labels: usize, predecessors: usize, output: usize) -> Call {
-    Call::Plan {
+    Call::Plan(Buffers {
         labels,
         predecessors,
         output,
-    }
+    })
 }

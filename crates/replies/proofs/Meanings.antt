@@ -3,6 +3,7 @@ use Rattle.std.proofs.Common.{ℕ, List, [], ◌∷◌, ◌++◌, vec_items, Som
 use Rattle.duty.specs.declared.Duty.{Duty}
 use Rattle.rules.specs.declared.breach.Violation.{Violation}
 use Rattle.rules.specs.declared.refusal.Refusal.{Refusal}
+use Rattle.planner.specs.declared.call.Buffers.{Buffers}
 use Rattle.planner.specs.declared.call.Call.{Call}
 use Rattle.planner.specs.declared.call.Call.TheVariants.{Record, Add, Drop, Plan}
 use Rattle.planner.specs.History.{History, Completes, Counts}
@@ -51,17 +52,17 @@ module _ {R : Type 0} (names : R → ℕ → Duty → Option Violation) (after :
     recording h letter count (Err r) h' (inr (x, spelt, inr (refused, some, fits, first))) = inr (x, spelt, inr (refused, some, fits, first_unlawful h x count r first))
     recording h letter count (Ok (Some s)) h' k = k
 
-    planning : (h : History) (labels predecessors output : ℕ) (a : Answer) (h' : History) → Planning names after better opened A h labels predecessors output a h' → Planning names after better opened B h labels predecessors output a h'
-    planning h labels predecessors output (Ok None) h' k = k
-    planning h labels predecessors output (Err r) h' (same, inl unready) = (same, inl unready)
-    planning h labels predecessors output (Err r) h' (same, inr (ready, number, x)) = (same, inr (ready, number, exactly h _ (Err r) x))
-    planning h labels predecessors output (Ok (Some s)) h' (same, ready, p, x) = (same, ready, planned_end h s.end (vec_items s.letters) p, exactly h _ (Ok (Some s)) x)
+    planning : (h : History) (b : Buffers) (a : Answer) (h' : History) → Planning names after better opened A h b a h' → Planning names after better opened B h b a h'
+    planning h b (Ok None) h' k = k
+    planning h b (Err r) h' (same, inl unready) = (same, inl unready)
+    planning h b (Err r) h' (same, inr (ready, number, x)) = (same, inr (ready, number, exactly h _ (Err r) x))
+    planning h b (Ok (Some s)) h' (same, ready, p, x) = (same, ready, planned_end h s.end (vec_items s.letters) p, exactly h _ (Ok (Some s)) x)
 
     answers_so : (h : History) (call : Call) (a : Answer) (h' : History) → Answers names after better opened A h call a h' → Answers names after better opened B h call a h'
     answers_so h (Record letter count) a h' k = recording h letter count a h' k
-    answers_so h (Add drive service opens closes) a h' k = k
+    answers_so h (Add stop) a h' k = k
     answers_so h Drop a h' k = k
-    answers_so h (Plan labels predecessors output) a h' k = planning h labels predecessors output a h' k
+    answers_so h (Plan b) a h' k = planning h b a h' k
 
     pub kept_so : (h : History) (calls : List Call) (answers : List Answer) → Kept names after better opened A h calls answers → Kept names after better opened B h calls answers
     kept_so h [] [] k = k

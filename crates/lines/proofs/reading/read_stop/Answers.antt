@@ -9,10 +9,10 @@ returns-in_default-leading_number c =
     λ place. (
       refl,
       not_stop place c.args.fields.now
-          (λ drive service opens closes d s o cl e.
+          (λ stop fits e.
           let one = c.in-Some.ensures in
-          let first = led_once c.in-Some.drive drive _ _ one.0 d (sym one.1 ∙ e) in
-          c.in_default-leading_number.ensures service _ s first.1),
+          let first = led_once c.in-Some.drive stop.drive _ _ one.0 fits.0 (sym one.1 ∙ e) in
+          c.in_default-leading_number.ensures stop.service _ fits.1 first.1),
     )
 
 pub returns-in_default-leading_number-2 : goal.returns-in_default-leading_number-2
@@ -20,12 +20,12 @@ returns-in_default-leading_number-2 c =
     λ place. (
       refl,
       not_stop place c.args.fields.now
-          (λ drive service opens closes d s o cl e.
+          (λ stop fits e.
           let one = c.in-Some.ensures in
           let two = c.in-Some-leading_number.ensures in
-          let first = led_once c.in-Some.drive drive _ _ one.0 d (sym one.1 ∙ e) in
-          let second = led_once c.in-Some-leading_number.service service _ _ two.0 s (sym two.1 ∙ first.1) in
-          c.in_default-leading_number-2.ensures opens _ o second.1),
+          let first = led_once c.in-Some.drive stop.drive _ _ one.0 fits.0 (sym one.1 ∙ e) in
+          let second = led_once c.in-Some-leading_number.service stop.service _ _ two.0 fits.1 (sym two.1 ∙ first.1) in
+          c.in_default-leading_number-2.ensures stop.opens _ fits.2 second.1),
     )
 
 pub returns-in_default-read_number : goal.returns-in_default-read_number
@@ -33,14 +33,14 @@ returns-in_default-read_number c =
     λ place. (
       refl,
       not_stop place c.args.fields.now
-          (λ drive service opens closes d s o cl e.
+          (λ stop fits e.
           let one = c.in-Some.ensures in
           let two = c.in-Some-leading_number.ensures in
           let three = c.in-Some-leading_number-2.ensures in
-          let first = led_once c.in-Some.drive drive _ _ one.0 d (sym one.1 ∙ e) in
-          let second = led_once c.in-Some-leading_number.service service _ _ two.0 s (sym two.1 ∙ first.1) in
-          let third = led_once c.in-Some-leading_number-2.opens opens _ _ three.0 o (sym three.1 ∙ second.1) in
-          c.in_default-read_number.ensures.value closes (subst (λ f. Spells f closes) (sym third.1) (decimal_spells closes cl))),
+          let first = led_once c.in-Some.drive stop.drive _ _ one.0 fits.0 (sym one.1 ∙ e) in
+          let second = led_once c.in-Some-leading_number.service stop.service _ _ two.0 fits.1 (sym two.1 ∙ first.1) in
+          let third = led_once c.in-Some-leading_number-2.opens stop.opens _ _ three.0 fits.2 (sym three.1 ∙ second.1) in
+          c.in_default-read_number.ensures.value stop.closes (subst (λ f. Spells f stop.closes) (sym third.1) (decimal_spells stop.closes fits.3))),
     )
 
 pub returns : goal.returns
@@ -53,6 +53,6 @@ returns c =
     let drive = decimal c.in-Some.drive in
     let service = decimal c.in-Some-leading_number.service in
     let opens = decimal c.in-Some-leading_number-2.opens in
-    stop_reads place c.args.fields.now c.in-Some.drive c.in-Some-leading_number.service c.in-Some-leading_number-2.opens c.in-Some-read_number.closes one.0 two.0 three.0 four.bound
+    stop_reads place c.args.fields.now _ (one.0, two.0, three.0, four.bound)
     (one.1
     ∙ ap (λ xs. drive ++ 44 ∷ xs) (two.1 ∙ ap (λ xs. service ++ 44 ∷ xs) (three.1 ∙ ap (λ xs. opens ++ 44 ∷ xs) (spells_decimal _ _ four.value))))

@@ -37,9 +37,9 @@ pub returns-in-Plan : goal.returns-in-Plan
 returns-in-Plan g c =
     let row = g.B.RuleBook.figures c.args.card.now.book in
     let now = c.args.card.now.now in
-    made_more c.plan_with.result (AnswersPlan g.B.RuleBook.names g.B.RuleBook.after g.B.Row.Figures.better (stops_of c.args.tour.now) row now c.in-Plan.labels c.in-Plan.predecessors c.in-Plan.output) _
+    made_more c.plan_with.result (AnswersPlan g.B.RuleBook.names g.B.RuleBook.after g.B.Row.Figures.better (stops_of c.args.tour.now) row now c.in-Plan.buffers) _
     (λ a p s ss h stands.
     let fits : 0 < length h.stops → (last_stop h.stops).closes + (last_stop h.stops).service ≤ 2688 = subst (λ l. 0 < length l → (last_stop l).closes + (last_stop l).service ≤ 2688) stands.tour (last_within c.args.tour.now) in
     subst (λ k. (h' : History) × Answers g.B.RuleBook.names g.B.RuleBook.after g.B.Row.Figures.better (g.B.RuleBook.opened s) (g.B.RuleBook.lawful s) h k a h' × StandsFor g.B.RuleBook.names g.B.RuleBook.after (g.B.RuleBook.opened s) row now (stops_of c.args.tour.now) h') (sym c.in-Plan.is)
-    (h, standing_plan g.B.RuleBook.names g.B.RuleBook.after g.B.Row.Figures.better (g.B.RuleBook.opened s) (g.B.RuleBook.lawful s) (λ l short. g.met.B.RuleBook.judged s l ss short) h stands.recorded fits c.in-Plan.labels c.in-Plan.predecessors c.in-Plan.output row now (stops_of c.args.tour.now) a stands p, stands))
+    (h, standing_plan g.B.RuleBook.names g.B.RuleBook.after g.B.Row.Figures.better (g.B.RuleBook.opened s) (g.B.RuleBook.lawful s) (λ l short. g.met.B.RuleBook.judged s l ss short) h stands.recorded fits c.in-Plan.buffers row now (stops_of c.args.tour.now) a stands p, stands))
     c.plan_with.ensures
