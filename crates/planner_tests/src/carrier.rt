@@ -101,10 +101,7 @@ impl RuleBook for DayOnly {
         if hour >= FROM && hour < UNTIL {
             None
         } else {
-            Some(Violation {
-                rule: Self::LOWEST,
-                layer: 1,
-            })
+            Some(Violation::own(Self::LOWEST))
         }
     }
 

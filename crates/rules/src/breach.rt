@@ -12,6 +12,13 @@ pub struct Violation {
 }
 
 impl Violation {
+    // A rule of a single book, which is layer 1.
+    pub fn own(rule: u8) -> Violation
+        ensures { result ≡ record { rule = rule; layer = 1 } }
+    {
+        Violation { rule, layer: 1 }
+    }
+
     // The breach that it is at a quarter.
     pub fn at(self, quarter: usize) -> Breach
         ensures { result ≡ record { quarter = quarter; rule = self.rule; layer = self.layer } }

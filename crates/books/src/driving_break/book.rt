@@ -103,10 +103,7 @@ impl RuleBook for BreakState {
 
     fn verdict(&self, quarter: usize, duty: Duty) -> Option<Violation> {
         if duty.is_driving() && self.row.driven >= self.row.limit {
-            Some(Violation {
-                rule: Self::LOWEST,
-                layer: 1,
-            })
+            Some(Violation::own(Self::LOWEST))
         } else {
             None
         }

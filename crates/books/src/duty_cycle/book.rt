@@ -104,10 +104,7 @@ impl RuleBook for CycleState {
 
     fn verdict(&self, quarter: usize, duty: Duty) -> Option<Violation> {
         if duty.is_driving() && total(&self.row.duty) >= self.row.limit {
-            Some(Violation {
-                rule: Self::LOWEST,
-                layer: 1,
-            })
+            Some(Violation::own(Self::LOWEST))
         } else {
             None
         }

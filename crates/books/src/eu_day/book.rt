@@ -100,15 +100,9 @@ impl RuleBook for EuDay {
             return None;
         }
         if self.row.elapsed >= LIMITS.elapsed {
-            Some(Violation {
-                rule: Self::LOWEST,
-                layer: 1,
-            })
+            Some(Violation::own(Self::LOWEST))
         } else if duty.is_driving() && self.row.driven >= LIMITS.driven {
-            Some(Violation {
-                rule: Self::HIGHEST,
-                layer: 1,
-            })
+            Some(Violation::own(Self::HIGHEST))
         } else {
             None
         }

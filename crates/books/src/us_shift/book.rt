@@ -101,15 +101,9 @@ impl RuleBook for UsShift {
             return None;
         }
         if self.row.elapsed >= LIMITS.elapsed {
-            Some(Violation {
-                rule: Self::LOWEST,
-                layer: 1,
-            })
+            Some(Violation::own(Self::LOWEST))
         } else if self.row.driven >= LIMITS.driven {
-            Some(Violation {
-                rule: Self::HIGHEST,
-                layer: 1,
-            })
+            Some(Violation::own(Self::HIGHEST))
         } else {
             None
         }

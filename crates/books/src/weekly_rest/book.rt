@@ -93,10 +93,7 @@ impl RuleBook for WeeklyRestState {
 
     fn verdict(&self, quarter: usize, duty: Duty) -> Option<Violation> {
         if duty.is_on_duty() && self.row.elapsed >= ELAPSED {
-            Some(Violation {
-                rule: Self::LOWEST,
-                layer: 1,
-            })
+            Some(Violation::own(Self::LOWEST))
         } else {
             None
         }

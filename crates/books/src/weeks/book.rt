@@ -99,15 +99,9 @@ impl RuleBook for WeeksState {
             return None;
         }
         if self.row.this >= WEEK_DRIVEN {
-            Some(Violation {
-                rule: Self::LOWEST,
-                layer: 1,
-            })
+            Some(Violation::own(Self::LOWEST))
         } else if self.row.this + self.row.last >= FORTNIGHT_DRIVEN {
-            Some(Violation {
-                rule: Self::HIGHEST,
-                layer: 1,
-            })
+            Some(Violation::own(Self::HIGHEST))
         } else {
             None
         }
