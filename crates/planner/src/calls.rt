@@ -2,7 +2,6 @@
 ghost use Rattle.std.specs.Prelude.{◌≡◌, IfOk};
 ghost use Rattle.planner.specs.History.{fresh};
 ghost use Rattle.planner.specs.OfBooks.{AnswersPlanFor, AnswersCallOn, KeptBy};
-ghost use Rattle.planner.specs.Standing.{answer_of};
 
 use crate::call::{Answer, Buffers, Call, Schedule};
 use crate::card::DriverCard;
@@ -10,15 +9,7 @@ use crate::plan::{plan, ready};
 use crate::search::first_label;
 use crate::tour::Tour;
 use rules::book::RuleBook;
-use rules::refusal::Refusal;
 use std::alloc::{AllocError, Global};
-
-// What a call answers that plans nothing.
-fn done_or_refused(res: Result<(), Refusal>) -> Answer
-    ensures { result ≡ answer_of res }
-{
-    res.map(|()| None)
-}
 
 // Plans with buffers of these lengths, of which it makes what the search uses; nothing is made where no search is.
 fn plan_with<B: RuleBook>(
@@ -29,6 +20,7 @@ fn plan_with<B: RuleBook>(
 ) -> Result<Answer, AllocError>
     ensures { IfOk result (AnswersPlanFor B.RuleBook B.Row.Figures card.entry.now tour.now buffers) }
 {
+    // `?` leaves where the heap is out; a refusal is an answer.
     let size = match ready(card, tour, buffers) {
         Ok(size) => size,
         Err(why) => return Ok(Err(why)),
@@ -61,12 +53,13 @@ fn make<B: RuleBook>(
 ) -> Result<Answer, AllocError>
     ensures { IfOk result (λ a. AnswersCallOn B.RuleBook B.Row.Figures card.entry.now tour.old call a card.exit.now tour.new) }
 {
-    match call {
-        Call::Record { letter, count } => Ok(done_or_refused(card.record(letter, count))),
-        Call::Add(stop) => Ok(done_or_refused(tour.add(stop))),
-        Call::Drop => Ok(done_or_refused(tour.drop_last())),
-        Call::Plan(buffers) => plan_with(heap, card, tour, buffers),
-    }
+    let done = match call {
+        Call::Record { letter, count } => card.record(letter, count),
+        Call::Add(stop) => tour.add(stop),
+        Call::Drop => tour.drop_last(),
+        Call::Plan(buffers) => return plan_with(heap, card, tour, buffers),
+    };
+    Ok(done.map(|()| None))
 }
 
 // Makes the calls in turn on a new card and a new tour, and gives an answer for each.
