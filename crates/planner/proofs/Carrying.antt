@@ -1,5 +1,5 @@
 -- One status for some quarters: what is known after each of them.
-use Rattle.std.proofs.Common.{◌≡◌, ℕ, ◌+◌, ◌-◌, ◌<◌, min, [], ◌∷◌, ◌++◌, length, replicate, Some, None, Option, sym, ap, ◌∙◌, subst, arith}
+use Rattle.std.proofs.Common.{◌≡◌, ℕ, ◌+◌, ◌-◌, ◌<◌, ◌≤◌, min, [], ◌∷◌, ◌++◌, length, replicate, Some, None, Option, sym, ap, ◌∙◌, subst, arith}
 use Rattle.std.proofs.lemmas.List.{length-replicate, replicate_more}
 use Rattle.duty.specs.declared.Duty.{Duty}
 use Rattle.rules.specs.declared.breach.Violation.{Violation}
@@ -13,26 +13,21 @@ module _ {R : Type 0} (names : R → ℕ → Duty → Option Violation) (after :
   abbrev pub Held : ℕ → R → Type 0
   Held n t = Allowed names after row now (replicate n x) × (t ≡ led after row now (replicate n x))
 
-  pub carry_more : (n : ℕ) (t t' : R) → now + n < 2688 → Held n t → None ≡ names t (min (now + n) 2687) x → t' ≡ after t (min (now + n) 2687) x → Held (n + 1) t'
-  carry_more n t t' early h free e =
-      let at : min (now + n) 2687 ≡ now + length (replicate n x) = simp length-replicate (omega arith) in
-      let pushed : replicate n x ++ x ∷ [] ≡ replicate (n + 1) x = replicate_more n x in (
-        subst (Allowed names after row now) pushed (allowed-push names after (replicate n x) row now x h.0 (ap (λ q. names (led after row now (replicate n x)) q x) (sym at) ∙ ap (λ s. names s (min (now + n) 2687) x) (sym h.1) ∙ sym free)),
+  pub carry_more : (q : ℕ) (t t' : R) → now ≤ q → q < 2688 → Held (q - now) t → None ≡ names t (min q 2687) x → t' ≡ after t (min q 2687) x → Held (q + 1 - now) t'
+  carry_more q t t' begun early h free e =
+      let at : min q 2687 ≡ now + length (replicate (q - now) x) = simp length-replicate (omega arith) in
+      let next : q - now + 1 ≡ q + 1 - now = omega arith in
+      let pushed : replicate (q - now) x ++ x ∷ [] ≡ replicate (q + 1 - now) x = replicate_more (q - now) x ∙ ap (λ n. replicate n x) next in (
+        subst (Allowed names after row now) pushed (allowed-push names after (replicate (q - now) x) row now x h.0 (ap (λ k. names (led after row now (replicate (q - now) x)) k x) (sym at) ∙ ap (λ s. names s (min q 2687) x) (sym h.1) ∙ sym free)),
         e
-            ∙ ap (λ s. after s (min (now + n) 2687) x) h.1
-            ∙ ap (λ q. after (led after row now (replicate n x)) q x) at
-            ∙ sym (led-push names after (replicate n x) row now x)
+            ∙ ap (λ s. after s (min q 2687) x) h.1
+            ∙ ap (λ k. after (led after row now (replicate (q - now) x)) k x) at
+            ∙ sym (led-push names after (replicate (q - now) x) row now x)
             ∙ ap (led after row now) pushed,
       )
 
-  pub carry_breach : (n count : ℕ) (t : R) (v : Violation) → now + n < 2688 → n < count → Held n t → Some v ≡ names t (min (now + n) 2687) x → Breached names after row now count x (record { quarter = now + n; rule = v.rule; layer = v.layer })
-  carry_breach n count t v early within h named =
-      let gap : now + n - now ≡ n = omega arith in
-      let at : min (now + n) 2687 ≡ now + n = omega arith in
-      let found : names (led after row now (replicate n x)) (now + n) x ≡ Some v = ap (λ s. names s (now + n) x) (sym h.1) ∙ ap (λ q. names t q x) (sym at) ∙ sym named in
-      record {
-        begun = omega arith;
-        within = omega arith;
-        allowed = rw gap h.0;
-        named = rw gap (ap (breach_at (now + n)) found);
-      }
+  pub carry_breach : (q count : ℕ) (t : R) (v : Violation) → now ≤ q → q < 2688 → q < now + count → Held (q - now) t → Some v ≡ names t (min q 2687) x → Breached names after row now count x (record { quarter = q; rule = v.rule; layer = v.layer })
+  carry_breach q count t v begun early within h named =
+      let at : min q 2687 ≡ q = omega arith in
+      let found : names (led after row now (replicate (q - now) x)) q x ≡ Some v = ap (λ s. names s q x) (sym h.1) ∙ ap (λ k. names t k x) (sym at) ∙ sym named in
+      record { begun = begun; within = omega arith; allowed = h.0; named = ap (breach_at q) found; }

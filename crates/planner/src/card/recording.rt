@@ -13,8 +13,7 @@ fn carry<B: RuleBook>(book: &mut B, from: usize, count: usize, duty: Duty) -> Op
     requires { from + count ≤ 2688 }
     ensures { CarriedBy B.RuleBook book.old from count duty book.new result }
 {
-    for passed in 0..count {
-        let quarter = from + passed;
+    for quarter in from..from + count {
         if let Some(named) = book.verdict(quarter, duty) {
             return Some(named.at(quarter));
         }
