@@ -7,7 +7,10 @@
 --   opened_cycle       the state before quarter 0
 --   given_cycle        the same, each figure taken as the nearest in its range
 --   remade_cycle s     the row s where it is a state's, else the state before quarter 0
+--   same_cycle         whether two rows are the same, figure by figure
 use Rattle.std.specs.Prelude.{◌≡◌, ℕ, ◌≤◌, min, max, Bool, cond, ◌&&◌, Some, None, Option, ◌==◌, nat_le}
+use Rattle.std.specs.Ordering.{on, eq_of_both}
+use Rattle.std.specs.Cmp.Lexicographic.{pointwise}
 use Rattle.duty.specs.declared.Duty.{Duty}
 use Rattle.duty.specs.declared.Duty.TheVariants.{Rest, Work, Drive}
 use Rattle.duty.specs.Duties.{resting, working}
@@ -58,3 +61,11 @@ fits_cycle s = nat_le 1 s.days && nat_le s.days 8 && nat_le 1 s.limit && nat_le 
 
 abbrev pub remade_cycle : CycleRow → CycleRow
 remade_cycle s = cond (fits_cycle s) s (given_cycle s.days s.limit s.restart)
+
+-- whether two rows are the same, figure by figure
+abbrev pub same_cycle : CycleRow → CycleRow → Bool
+same_cycle =
+    eq_of_both (on (λ r. r.days) ◌==◌)
+    (eq_of_both (on (λ r. r.limit) ◌==◌)
+    (eq_of_both (on (λ r. r.restart) ◌==◌)
+    (eq_of_both (on (λ r. r.duty) (pointwise ◌==◌)) (on (λ r. r.rest) ◌==◌))))

@@ -1,6 +1,6 @@
 // The figures of a cycle as they stand, in range or not.
-ghost use Rattle.std.specs.Prelude.{◌≡◌};
-ghost use Rattle.books.specs.DutyCycle.{NoWorseCycle, next_cycle, fits_cycle};
+ghost use Rattle.std.specs.Prelude.{◌≡◌, Decides};
+ghost use Rattle.books.specs.DutyCycle.{NoWorseCycle, next_cycle, fits_cycle, same_cycle};
 ghost use Rattle.std.proofs.Common.{rules};
 
 use super::counts::{count_on, counts_fit, no_more};
@@ -42,6 +42,14 @@ impl Figures for CycleRow {
 }
 
 impl CycleRow {
+    // The derived `==` says whether the rows are the same.
+    pub fn same(&self, other: &CycleRow) -> bool
+        ensures value { result ≡ same_cycle self.now other.now }
+        ensures same { Decides result (self.now ≡ other.now) }
+    {
+        self == other
+    }
+
     // One quarter on: a rest that gets full ends the counts.
     pub(super) fn next(self, quarter: usize, duty: Duty) -> CycleRow
         ensures { result ≡ next_cycle self quarter duty }
