@@ -5,7 +5,7 @@ ghost use Rattle.books.specs.DayCounts.{NoMore, none_on, total_on, turned, gone_
 use duty::ends_day;
 
 // The quarters of a day, as a count.
-const DAY: u8 = 96;
+const DAY: u8 = duty::DAY as u8;
 
 // Whether no count is larger than the other's of the same day.
 pub(super) fn no_more(counts: &[u8; 8], others: &[u8; 8]) -> bool
