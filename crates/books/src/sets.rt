@@ -105,11 +105,10 @@ pub fn eu() -> EuBook
 }
 
 // The lawful length of a log under a rule set, and the first breach if there is one.
-// Each arm has a judge of its own: the books are of different types.
 pub fn judge_by(set: RuleSet, log: &[u8]) -> Result<(usize, Option<Breach>), Refusal>
     ensures { JudgedBy (sentences set) log.now result }
 {
-    // A match, since the books of the sets are of two types.
+    // A match: the books of the sets are of two types, and a function over any of them would want a trait with a generic method, no plainer.
     match set {
         RuleSet::Us7 => judge(&us7(), log),
         RuleSet::Us8 => judge(&us8(), log),

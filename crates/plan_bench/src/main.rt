@@ -13,9 +13,9 @@ use std::alloc::{AllocError, Global};
 use std::io;
 use std::io::{BufRead, BufReader};
 
-// The answers to the calls under a rule set, of which each has books of a type of its own, and so an arm of its own.
+// The answers to the calls under a rule set.
 fn run_by(heap: Global, set: RuleSet, calls: &[Call]) -> Result<Vec<Answer>, AllocError> {
-    // A match, since the books of the sets are of two types.
+    // A match: the books of the sets are of two types, and a function over any of them would want a trait with a generic method, no plainer.
     match set {
         RuleSet::Us7 => run_calls(heap, &us7(), calls),
         RuleSet::Us8 => run_calls(heap, &us8(), calls),

@@ -29,7 +29,7 @@ fn reply_under<B: RuleBook>(
     spell_reply(heap, readings, answers.as_slice())
 }
 
-// The reply to the lines of a text under a named rule set, of which each has books of a type of its own, and so an arm of its own.
+// The reply to the lines of a text under a named rule set.
 fn reply_by(
     heap: Global,
     set: RuleSet,
@@ -37,7 +37,7 @@ fn reply_by(
 ) -> Result<Vec<u8>, AllocError>
     ensures { IfOk result (λ reply. ((answers : List Answer) × KeptUnder set (calls_read readings.now) answers × Replied 1 readings.now answers reply.items)) }
 {
-    // A match, since the books of the sets are of two types.
+    // A match: the books of the sets are of two types, and a function over any of them would want a trait with a generic method, no plainer.
     match set {
         RuleSet::Us7 => reply_under(heap, &us7(), readings),
         RuleSet::Us8 => reply_under(heap, &us8(), readings),
