@@ -1,5 +1,6 @@
 // The named rule sets, and the judge at one of them.
 ghost use Rattle.std.specs.Prelude.{◌≡◌};
+ghost use Rattle.rules.specs.declared.refusal.Refusal.TheVariants.{Spelling};
 ghost use Rattle.books.specs.Names.{set_name, SetNamed, sentences};
 ghost use Rattle.books.specs.Verdicts.{JudgedBy};
 ghost use Rattle.books.specs.Piles.{us_row, given_us, opened_us, eu_row, opened_eu};
@@ -38,6 +39,14 @@ impl RuleSet {
 // No rule set has that name.
 #[derive(Clone, Copy, PartialEq, Eq, Debug)]
 pub struct NoSuchSet;
+
+impl From<NoSuchSet> for Refusal {
+    ghost from_gives = { λ _ why. why ≡ Spelling };
+
+    fn from(_wrong: NoSuchSet) -> Refusal {
+        Refusal::Spelling
+    }
+}
 
 // The set of that name.
 impl TryFrom<&[u8]> for RuleSet {

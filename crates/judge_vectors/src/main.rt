@@ -11,10 +11,7 @@ use std::io::{BufRead, BufReader};
 
 // What the judge finds at the set of that name.
 fn judged(name: &[u8], log: &[u8]) -> Result<(usize, Option<Breach>), Refusal> {
-    let Ok(set) = RuleSet::try_from(name) else {
-        return Err(Refusal::Spelling);
-    };
-    judge_by(set, log)
+    judge_by(RuleSet::try_from(name)?, log)
 }
 
 fn main(rt: HostRuntime) -> io::Result<()> {
