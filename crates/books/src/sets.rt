@@ -25,6 +25,7 @@ pub enum RuleSet {
 }
 
 impl RuleSet {
+    // The word itself; `Display` would make a text of it.
     pub fn name(self) -> &'static str
         ensures { result.now ≡ set_name self }
     {

@@ -30,4 +30,4 @@ module _ {R : Type 0} (names : R → ℕ → Duty → Option Violation) (after :
   carry_breach q count t v begun early within h named =
       let at : min q 2687 ≡ q = omega arith in
       let found : names (led after row now (replicate (q - now) x)) q x ≡ Some v = ap (λ s. names s q x) (sym h.1) ∙ ap (λ k. names t k x) (sym at) ∙ sym named in
-      record { begun = begun; within = omega arith; allowed = h.0; named = ap (breach_at q) found; }
+      record { begun = begun; within = omega arith; allowed = h.0; named = ap (breach_at q) found }

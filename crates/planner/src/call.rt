@@ -10,7 +10,7 @@ pub struct Buffers {
     pub output: usize,
 }
 
-// One call, with what it is passed.
+// One call, with what it is passed. A letter is any byte, since one that stands for no status is refused by the call.
 #[derive(Clone, Copy)]
 pub enum Call {
     Record { letter: u8, count: usize },

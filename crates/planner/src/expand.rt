@@ -88,7 +88,7 @@ pub(crate) fn note_layer<R: Copy + Drop>(trail: &mut [u16], labels: &[Label<R>])
     requires { length labels.now ≤ length trail.old }
     ensures { (j : ℕ) (d : Label R) → j < length labels.now → slice_index trail.new j ≡ (slice_index_or labels.now j d).from }
 {
-    // Over `iter_mut` a proof would lose what is written.
+    // By place: over `iter_mut().zip(labels)` the proof did not close, since nothing is known then of what is written.
     for (j, label) in labels.iter().enumerate() {
         trail[j] = label.from;
     }

@@ -23,7 +23,7 @@ pub(crate) fn is_begun<R: Copy + Drop>(stops: &[Stop], a: &Label<R>) -> bool
     a.service < stop_at(stops, a.stop).service
 }
 
-// Whether the service has begun, or can still begin by its close.
+// Whether the service has begun, or can still begin by its close. The quarter is no moment's: it may be the one after the horizon.
 pub(crate) fn is_alive<R: Copy + Drop>(stops: &[Stop], q: usize, a: &Label<R>) -> bool
     ensures { result ≡ alive stops.now q a.now }
 {

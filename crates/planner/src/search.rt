@@ -76,7 +76,7 @@ pub(crate) fn search<B: RuleBook>(
     for t in 0..span {
         let quarter = card.now() + t;
         let moment = Moment { stops, quarter };
-        // `&front[0..count]` has no proof where the labels are generic.
+        // The kept of the lent places. As `&front[0..count]` the check has no proof of it, the row of a label being a book's.
         let (labels, _) = front.split_at(count);
         if let Some(place) = find_serving::<B>(moment, labels) {
             return Ok(End { quarter: t, place });

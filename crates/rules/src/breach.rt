@@ -4,7 +4,7 @@ ghost use Rattle.rules.specs.Refusals.{spelled_breach};
 
 use std::fmt;
 
-// A broken rule and the layer that has it, the bottom book being layer 1.
+// A broken rule and the layer that has it, the bottom book being layer 1. A rule is a number and no enum, since a carrier's book adds its own.
 #[derive(Clone, Copy, PartialEq, Eq, Debug)]
 pub struct Violation {
     pub rule: u8,

@@ -6,7 +6,8 @@ use crate::breach::Breach;
 use crate::refusal::Refusal;
 use duty::{Duty, HORIZON};
 
-// The lawful length of a log of R, W and D, from a fresh opening of the book, and the first breach if there is one.
+// The lawful length of a log of R, W and D, from a fresh opening of the book, and the first breach if there is one: a pair, by the rules of
+// the project.
 pub fn judge<B: RuleBook>(book: &B, log: &[u8]) -> Result<(usize, Option<Breach>), Refusal>
     ensures { Judged B.RuleBook.names B.RuleBook.after (B.RuleBook.opened (B.RuleBook.figures book.now)) (B.RuleBook.lawful (B.RuleBook.figures book.now)) log.now result }
 {
