@@ -5,7 +5,8 @@ use crate::order::Covers;
 use crate::passes::{compact, is_covered};
 use crate::refusal::Refusal;
 
-// The places are memory that the caller lends, and the first `count` of them are kept.
+// The places are memory that the caller lends, and the first `count` of them are kept. That they stay the caller's (`lender`) is said by each
+// function that passes a frontier on, since the kit asks it of each.
 #[derive(Drop)]
 pub struct Frontier<'a, T> {
     places: &'a mut [T],

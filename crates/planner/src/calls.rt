@@ -44,7 +44,7 @@ fn plan_with<B: RuleBook>(
     }
 }
 
-// Makes one call.
+// Makes one call. A card and a tour are two arguments, since record takes the one alone, and add and drop the other.
 fn make<B: RuleBook>(
     heap: Global,
     card: &mut DriverCard<B>,

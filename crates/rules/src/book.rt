@@ -61,7 +61,8 @@ pub trait RuleBook: Copy + Drop {
     fn opening(&self) -> Self
         ensures { figures result ≡ opened (figures self.now) };
 
-    // The rule that the status would break at the quarter, or nothing where it is allowed.
+    // The rule that the status would break at the quarter, or nothing where it is allowed. A quarter and a status are two arguments here and
+    // in `step` by the rules of the project.
     fn verdict(&self, quarter: usize, duty: Duty) -> Option<Violation>
         ensures { result ≡ names (figures self.now) (min quarter 2687) duty };
 

@@ -75,7 +75,7 @@ fn renew(counts: &[u8; 8], today: u8) -> [u8; 8]
     renewed
 }
 
-// The counts after a quarter; a rest that is full leaves none.
+// The counts after a quarter; a rest that is full leaves none. Of a row they and the number of days are all that is asked here.
 pub(super) fn count_on(
     counts: &[u8; 8],
     days: u8,
