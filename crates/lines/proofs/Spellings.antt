@@ -80,17 +80,17 @@ module _ (place : ℕ) where
   no_fields bytes none drops plans (line.Call (Plan buffers)) h = plans h.spelling
 
   -- with fields there are no other kinds than these three
-  pub no_kind : (bytes kind fields : List ℕ) → Parted 44 bytes kind fields → (kind ≡ codes "done" → ⊥) → (kind ≡ codes "stop" → ⊥) → (kind ≡ codes "rules" → ⊥) → (x : Line) → Says place bytes x → ⊥
-  no_kind bytes kind fields cut done stop rules (line.Rules s) h =
-      rules (parted_once 44 kind (codes "rules") fields (set_name s) cut.unbroken (lacks_so 44 (codes "rules") refl) (sym cut.whole ∙ h.spelling)).0
-  no_kind bytes kind fields cut done stop rules (line.Call (Record letter count)) h =
-      done (parted_once 44 kind (codes "done") fields (done_fields letter count) cut.unbroken (lacks_so 44 (codes "done") refl) (sym cut.whole ∙ h.spelling)).0
-  no_kind bytes kind fields cut done stop rules (line.Call (Add s)) h =
-      stop (parted_once 44 kind (codes "stop") fields (stop_fields s) cut.unbroken (lacks_so 44 (codes "stop") refl) (sym cut.whole ∙ h.spelling)).0
-  no_kind bytes kind fields cut done stop rules (line.Call Drop) h =
-      lacks_not 44 kind fields (subst (Lacks 44) (sym h.spelling ∙ cut.whole) (lacks_so 44 (codes "drop") refl))
-  no_kind bytes kind fields cut done stop rules (line.Call (Plan buffers)) h =
-      lacks_not 44 kind fields (subst (Lacks 44) (sym h.spelling ∙ cut.whole) (lacks_so 44 (codes "plan") refl))
+  pub no_kind : (kind fields : List ℕ) → Lacks 44 kind → (kind ≡ codes "done" → ⊥) → (kind ≡ codes "stop" → ⊥) → (kind ≡ codes "rules" → ⊥) → (x : Line) → Says place (kind ++ 44 ∷ fields) x → ⊥
+  no_kind kind fields none done stop rules (line.Rules s) h =
+      rules (parted_once 44 kind (codes "rules") fields (set_name s) none (lacks_so 44 (codes "rules") refl) h.spelling).0
+  no_kind kind fields none done stop rules (line.Call (Record letter count)) h =
+      done (parted_once 44 kind (codes "done") fields (done_fields letter count) none (lacks_so 44 (codes "done") refl) h.spelling).0
+  no_kind kind fields none done stop rules (line.Call (Add stop')) h =
+      stop (parted_once 44 kind (codes "stop") fields (stop_fields stop') none (lacks_so 44 (codes "stop") refl) h.spelling).0
+  no_kind kind fields none done stop rules (line.Call Drop) h =
+      lacks_not 44 kind fields (subst (Lacks 44) (sym h.spelling) (lacks_so 44 (codes "drop") refl))
+  no_kind kind fields none done stop rules (line.Call (Plan buffers)) h =
+      lacks_not 44 kind fields (subst (Lacks 44) (sym h.spelling) (lacks_so 44 (codes "plan") refl))
 
 -- the fields of done, parted at their first comma
 pub done_parts : (fields front back : List ℕ) → Parted 44 fields front back → (letter count : ℕ) → (letter ≡ 44 → ⊥) → fields ≡ done_fields letter count → (front ≡ letter ∷ []) × (back ≡ decimal count)

@@ -1,5 +1,6 @@
 // What a line says, or the refusal where it fits no kind of line.
-ghost use Rattle.std.specs.Prelude.{◌≡◌, ℕ, ◌++◌, codes};
+ghost use Rattle.std.specs.Prelude.{◌≡◌, ℕ, ◌∷◌, ◌++◌, codes};
+ghost use Rattle.fields.specs.Cuts.{Lacks};
 ghost use Rattle.lines.specs.Says.{Reads, plan_call};
 
 use crate::line::Line;
@@ -20,6 +21,8 @@ pub fn plan_call() -> Call
         output: 384,
     })
 }
+
+// Each field of a line is taken by let-else and leaves with the refusal, as the project's rules lay down for a reader of lines.
 
 // What the line `done` with these fields says.
 fn read_done(fields: &[u8]) -> Result<Line, Refusal>
@@ -77,27 +80,33 @@ fn read_rules(place: usize, name: &[u8]) -> Result<Line, Refusal>
     Ok(Line::Rules(set))
 }
 
+// What a line of that kind with these fields says at that place of the text.
+#[tactic(auto, using(crate::proofs::Spellings::no_kind))]
+fn read_kind(place: usize, kind: &[u8], fields: &[u8]) -> Result<Line, Refusal>
+    requires { Lacks 44 kind.now }
+    ensures { Reads place (kind.now ++ 44 ∷ fields.now) result }
+{
+    match kind {
+        b"done" => read_done(fields),
+        b"stop" => read_stop(fields),
+        b"rules" => read_rules(place, fields),
+        _ => Err(Refusal::Spelling),
+    }
+}
+
 // What the line at that place of the text says, counted from 1.
+#[tactic(auto, using(crate::proofs::Spellings::no_fields))]
 pub fn read_line(place: usize, line: &[u8]) -> Result<Line, Refusal>
     ensures { Reads place line.now result }
 {
-    // Words are compared whole: a `match` asks a proof for each byte at which a line can leave a word.
-    if line == b"drop".as_slice() {
-        return Ok(Line::Call(Call::Drop));
-    }
-    if line == b"plan".as_slice() {
-        return Ok(Line::Call(plan_call()));
-    }
-    let Some((kind, fields)) = cut_at(line, b',') else {
-        return Err(Refusal::Spelling);
-    };
-    if kind == b"done".as_slice() {
-        read_done(fields)
-    } else if kind == b"stop".as_slice() {
-        read_stop(fields)
-    } else if kind == b"rules".as_slice() {
-        read_rules(place, fields)
-    } else {
-        Err(Refusal::Spelling)
+    match line {
+        b"drop" => Ok(Line::Call(Call::Drop)),
+        b"plan" => Ok(Line::Call(plan_call())),
+        _ => {
+            let Some((kind, fields)) = cut_at(line, b',') else {
+                return Err(Refusal::Spelling);
+            };
+            read_kind(place, kind, fields)
+        }
     }
 }
