@@ -12,11 +12,9 @@ pub fn cut_text(stream: &[u8]) -> Option<(&[u8], &[u8])>
 {
     let (digits, after) = cut_at(stream, b'\n')?;
     let length = usize::from(read_number(digits)?);
-    if length < after.len() && after[length] == b'\n' {
-        Some((&after[..length], &after[length + 1..]))
-    } else {
-        None
-    }
+    let (text, rest) = after.split_at_checked(length)?;
+    let rest = rest.strip_prefix(b"\n")?;
+    Some((text, rest))
 }
 
 // The framed texts that a stream begins with, one after the other.
