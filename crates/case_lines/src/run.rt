@@ -21,6 +21,7 @@ pub struct Run {
 pub struct Misspelled;
 
 // The number that the digits spell, held at 2689; an error where another byte stands among them.
+// No number of a field: a count may have any number of digits, with zeros in front, and is held.
 fn held_number(digits: &[u8]) -> Result<usize, Misspelled>
     ensures { MatchResult result (λ n. Held digits.now n) (λ why. (n : ℕ) → Held digits.now n → ⊥) }
 {
@@ -66,15 +67,12 @@ impl Run {
 }
 
 // The log that the words after the line's first one spell, as far as 2689 letters; nothing where one of them is no run.
+// An Option, since a word that spells no run has no more to say.
 pub fn log_of(heap: Global, line: &str) -> Result<Option<Vec<u8>>, AllocError>
     ensures { IfOk result (λ found. MatchOption found (NoRun line.now) (λ log. SpellsLog line.now log.items)) }
 {
     let mut log = Vec::new(heap);
-    let mut words = line.split_whitespace();
-    let Some(_) = words.next() else {
-        return Ok(Some(log));
-    };
-    for word in words {
+    for word in line.split_whitespace().skip(1) {
         let Ok(run) = Run::try_from(word.as_bytes()) else {
             return Ok(None);
         };
