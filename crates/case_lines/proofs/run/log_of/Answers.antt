@@ -1,7 +1,7 @@
-use Rattle.std.proofs.Common.{◌≡◌, ◌-◌, min, replicate, length, vec_len, ap, length-append, ◌∷◌, [], ◌++◌, sym, subst, ◌∙◌, arith}
+use Rattle.std.proofs.Common.{rules, ◌≡◌, ◌-◌, min, replicate, length, vec_len, ap, length-append, ◌∷◌, [], ◌++◌, sym, subst, ◌∙◌, arith}
 use Rattle.std.specs.Iterator.Adapters.{skip_source, skip_count}
 use Rattle.std.specs.Str.Iter.{split_whitespace_rest, split_whitespace_steps}
-use Rattle.case_lines.specs.Spelled.{SpellsRun, SpellEach}
+use Rattle.case_lines.specs.Spelled.{NoRun, SpellsRun, SpellEach}
 use Rattle.case_lines.proofs.Reading.{next_word, no_more_words, each_more, log_more}
 use Rattle.case_lines.proofs.run.log_of.Goals as goal
 
@@ -15,7 +15,8 @@ returns-in_default c =
     let read = c.loop-word.invariant in
     let next = next_word split_whitespace_rest split_whitespace_steps (λ s t x h. h) read.0 c.args.line.now (skip_source c.loop-word.word-iterator) (skip_source c.next.new.self) (skip_count c.loop-word.word-iterator) c.in-Some.word read.2 read.3 c.in-Some.ensures.steps.1 in
     let none : (run : _) → SpellsRun c.in-Some.word.now run → ⊥ = λ run h. c.in_default.ensures run (subst (λ w. SpellsRun w run) (sym c.as_bytes.ensures.value) h) in
-    (next.0, c.in-Some.word.now, _, next.1, next.2, none)
+    let wrong : NoRun c.args.line.now = (next.0, c.in-Some.word.now, _, next.1, next.2, none) in
+    search rules
 
 pub loop-word-preserved : goal.loop-word-preserved
 loop-word-preserved c =
