@@ -114,7 +114,7 @@ pub fn eu() -> EuBook
     }
 }
 
-// The lawful length of a log under a rule set, and the first breach if there is one.
+// The lawful length of a log under a rule set, and the first breach if there is one: a pair, by the rules of the project.
 pub fn judge_by(set: RuleSet, log: &[u8]) -> Result<(usize, Option<Breach>), Refusal>
     ensures { JudgedBy (sentences set) log.now result }
 {

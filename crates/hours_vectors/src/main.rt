@@ -18,6 +18,7 @@ fn print_outline(rt: &HostRuntime, reply: &str) -> io::Result<()> {
 
 fn main(rt: HostRuntime) -> anyhow::Result<()> {
     let heap = rt.alloc();
+    // Read as each program of framed texts does: what follows of it differs, and a function for these two lines would be no shorter.
     let mut stream = Vec::new(heap);
     rt.stdin().read_to_end(&mut stream)?;
     for (case, text) in (1..).zip(Frames::of(stream.as_slice())) {

@@ -15,7 +15,7 @@ use frontier::Frontier;
 use planning::{Label, Stop};
 use rules::book::{Figures, RuleBook};
 
-// Offers the label that was moved to, if there is one and it is alive.
+// Offers the label that was moved to, if there is one and it is alive. The quarter is no moment's: it may be the one after the horizon.
 pub(crate) fn offer_live<R: Figures>(
     frontier: &mut Frontier<'_, Label<R>>,
     stops: &[Stop],
@@ -46,7 +46,7 @@ fn second_duty<R: Copy + Drop>(a: &Label<R>) -> Duty
     }
 }
 
-// A smallest cover of what the labels move to, kept at the front of `places`.
+// A smallest cover of what the labels move to, kept at the front of `places`. The sheet holds plain rows, so their being sound is asked, here and below.
 pub(crate) fn expand<'a, B: RuleBook>(
     moment: Moment<'_>,
     labels: &[Label<B::Row>],

@@ -19,7 +19,7 @@ pub(crate) fn write_letters(trail: &[u16], width: usize, t: usize, place: usize,
 {
     output[t] = u8::from(Duty::Work);
     let mut label = place;
-    // By place: each note names the label of the layer before, and layers in chunks, turned round and zipped with the output, say that less plainly.
+    // By place, in the lent trail of `width` notes a layer: each note names the label of the layer before, and layers in chunks, turned round and zipped with the output, say that less plainly.
     for i in (0..t).rev() {
         let (from, duty) = decode(trail[i * width + label]);
         output[i] = u8::from(duty);

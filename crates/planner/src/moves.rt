@@ -28,7 +28,7 @@ pub(crate) fn is_alive<R: Copy + Drop>(stops: &[Stop], q: usize, a: &Label<R>) -
     ensures { result ≡ alive stops.now q a.now }
 {
     let closes = stop_at(stops, a.stop).closes;
-    is_begun(stops, a) || (a.drive <= closes && q <= (closes - a.drive) as usize)
+    is_begun(stops, a) || (a.drive <= closes && q <= usize::from(closes - a.drive))
 }
 
 // A quarter of the search, and the stops of the tour.
@@ -46,7 +46,8 @@ impl Moment<'_> {
         ensures { result ≡ ready self.entry.stops.now self.entry.quarter a.now }
     {
         let stop = stop_at(self.stops, a.stop);
-        let in_window = stop.opens as usize <= self.quarter && self.quarter <= stop.closes as usize;
+        let in_window = usize::from(stop.opens) <= self.quarter
+            && self.quarter <= usize::from(stop.closes);
         a.drive == 0 && (is_begun(self.stops, a) || in_window)
     }
 

@@ -22,5 +22,5 @@ pub(crate) fn decode(entry: u16) -> (usize, Duty)
         1 => Duty::Work,
         _ => Duty::Drive,
     };
-    ((entry / 4) as usize, duty)
+    (usize::from(entry / 4), duty)
 }

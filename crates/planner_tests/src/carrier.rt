@@ -12,7 +12,7 @@ const FROM: usize = 24;
 
 const UNTIL: usize = 80;
 
-// It has nothing to remember, and is its own row.
+// It has nothing to remember, and is its own row. Its impl of `RuleBook` has the shape of any single book's, which is all that they share.
 #[derive(Clone, Copy)]
 pub struct DayOnly;
 

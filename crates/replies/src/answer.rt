@@ -54,7 +54,7 @@ fn reply_to(heap: Global, text: &[u8]) -> Result<Vec<u8>, AllocError>
 }
 
 // The most bytes that a text can have.
-const MOST_TEXT: usize = 4096;
+pub const MOST_TEXT: usize = 4096;
 
 // Writes the reply to a text at the front of the output, and gives its length. A text that is too long is refused and alters nothing;
 // an output that is too short for the whole reply is refused and left all 0.

@@ -15,7 +15,7 @@ pub(super) const MOST_LIMIT: u16 = 768;
 pub(super) const MOST_RESTART: u16 = 672;
 
 // The number of days, the limit and the length of the restart; the quarters on duty since the last
-// restart of the day of the next quarter and of each day before it, and the rest run.
+// restart of the day of the next quarter and of each day before it, and the rest run. A state is copied, so the counts are an array of the most days.
 #[derive(Clone, Copy, PartialEq, Eq, Debug)]
 pub struct CycleRow {
     pub days: u8,
@@ -42,7 +42,7 @@ impl Figures for CycleRow {
 }
 
 impl CycleRow {
-    // The derived `==` says whether the rows are the same.
+    // The derived `==` says whether the rows are the same. The method stands for the promise, which a derive cannot state.
     pub fn same(&self, other: &CycleRow) -> bool
         ensures value { result ≡ same_cycle self.now other.now }
         ensures same { Decides result (self.now ≡ other.now) }

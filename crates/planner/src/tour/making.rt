@@ -4,17 +4,23 @@ ghost use Rattle.planner.specs.Ranges.{InRange};
 ghost use Rattle.planner.specs.Toured.{stops_of, PutLast, TakenOff};
 
 use super::Tour;
+use duty::HORIZON;
 use planning::Stop;
 use rules::refusal::Refusal;
+
+// The most quarters of driving before a stop, and of its service.
+const MOST_DRIVE: u16 = 672;
+
+const MOST_SERVICE: u16 = 32;
 
 fn in_range(stop: Stop) -> bool
     ensures { Decides result (InRange stop) }
 {
-    stop.drive <= 672
+    stop.drive <= MOST_DRIVE
         && 1 <= stop.service
-        && stop.service <= 32
+        && stop.service <= MOST_SERVICE
         && stop.opens <= stop.closes
-        && stop.closes <= 2688 - stop.service
+        && usize::from(stop.closes) + usize::from(stop.service) <= HORIZON
 }
 
 impl Tour {
