@@ -1,4 +1,5 @@
-// What the program prints: a first line for programs, and then what a person wants to know.
+// What the program prints: a first line for programs, and then what a person wants to know. The line is spelled here too, beside case_lines:
+// that crate is for tests, and knows no rule set.
 use books::sets::RuleSet;
 use duty::{DAY, WEEK};
 use rules::breach::Breach;

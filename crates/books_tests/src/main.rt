@@ -11,6 +11,7 @@ use std::io::{BufRead, BufReader};
 
 fn main(rt: HostRuntime) -> io::Result<()> {
     let heap = rt.alloc();
+    // The loop stands in both programs of cases: a function for it would take the judging, and would have to ask that it may be called.
     for line in BufReader::new(heap, rt.stdin())?.lines(heap) {
         let line = line?;
         if !line.as_str().starts_with("#") {

@@ -9,7 +9,8 @@ use planning::Stop;
 use replies::runs::{Run, runs_of};
 use std::io;
 
-// Prints each run of the letters, its first quarter, its letter and its length, and then the end.
+// Prints each run of the letters, its first quarter, its letter and its length, and then the end. Replies write such lines as bytes of a text,
+// and this program prints each by itself.
 fn print_schedule(rt: &HostRuntime, schedule: &Schedule) -> io::Result<()> {
     let Schedule { end, letters } = schedule;
     for run in runs_of(rt.alloc(), *end, letters.as_slice())?.iter() {

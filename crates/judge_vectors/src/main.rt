@@ -16,6 +16,7 @@ fn judged(name: &[u8], log: &[u8]) -> Result<(usize, Option<Breach>), Refusal> {
 
 fn main(rt: HostRuntime) -> io::Result<()> {
     let heap = rt.alloc();
+    // The loop stands in both programs of cases: a function for it would take the judging, and would have to ask that it may be called.
     for line in BufReader::new(heap, rt.stdin())?.lines(heap) {
         let line = line?;
         let read = Case::of(heap, line.as_str())?;
