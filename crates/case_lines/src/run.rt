@@ -67,7 +67,7 @@ impl Run {
 }
 
 // The log that the words after the line's first one spell, as far as 2689 letters; nothing where one of them is no run.
-// An Option, since a word that spells no run has no more to say.
+// An Option, since with its error the log would be a Result in a Result, and who asks wants to know no more than that there is no log.
 pub fn log_of(heap: Global, line: &str) -> Result<Option<Vec<u8>>, AllocError>
     ensures { IfOk result (λ found. MatchOption found (NoRun line.now) (λ log. SpellsLog line.now log.items)) }
 {

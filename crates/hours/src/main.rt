@@ -9,8 +9,8 @@ use planning::Stop;
 use replies::runs::{Run, runs_of};
 use std::io;
 
-// Prints each run of the letters, its first quarter, its letter and its length, and then the end. Replies write such lines as bytes of a text,
-// and this program prints each by itself.
+// Prints each run of the letters, its first quarter, its letter and its length, and then the end. Replies write such lines as bytes of
+// a whole text, and to print one of them by itself would be no shorter.
 fn print_schedule(rt: &HostRuntime, schedule: &Schedule) -> io::Result<()> {
     let Schedule { end, letters } = schedule;
     for run in runs_of(rt.alloc(), *end, letters.as_slice())?.iter() {

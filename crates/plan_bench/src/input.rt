@@ -1,4 +1,5 @@
-// The calls that a line spells: `SET LABELS REPEAT`, and then a stop a word, `DRIVE,SERVICE,OPENS,CLOSES`.
+// The calls that a line spells: `SET LABELS REPEAT`, and then a stop a word, `DRIVE,SERVICE,OPENS,CLOSES`. Readers give an Option, since every
+// failure is one: the line spells no calls.
 use duty::HORIZON;
 use planner::call::{Buffers, Call};
 use planning::Stop;

@@ -10,6 +10,7 @@ use std::alloc::{AllocError, Global};
 const MOST_REPLY: usize = 65536;
 
 // The reply to a text, or the one line that refuses the whole of it. Where the reply names a breach, it is the first one by the sentences.
+// The line is no `refusal_line`: a whole text is never refused for a breach, and to say so would be longer than to spell it.
 pub fn printed(heap: Global, text: &[u8]) -> Result<Vec<u8>, AllocError>
     ensures value { IfOk result (λ bytes. Printed text.now bytes.items) }
     ensures breaches { BreachesFirst }
