@@ -25,7 +25,10 @@ fn plan_with<B: RuleBook>(
         Ok(size) => size,
         Err(why) => return Ok(Err(why)),
     };
-    let mut sheet = vec![in heap; first_label(tour.stops(), card.row()); buffers.labels]?;
+    // The label is copied: `vec!` would clone it, and a carrier's row may have a clone that fails.
+    let first = first_label(tour.stops(), card.row());
+    let mut sheet = Vec::with_capacity(heap, buffers.labels)?;
+    sheet.resize_with(buffers.labels, || first)?;
     let mut trail = vec![in heap; 0u16; size.width * size.span]?;
     let mut letters = vec![in heap; 0u8; size.span]?;
     let planned = plan(
@@ -38,6 +41,8 @@ fn plan_with<B: RuleBook>(
     match planned {
         Ok(end) => {
             letters.truncate(end - card.now());
+            // Gives back what was made for the rest of the span, since a run of calls keeps the letters of all its plans.
+            letters.shrink_to_fit();
             Ok(Ok(Some(Schedule { end, letters })))
         }
         Err(why) => Ok(Err(why)),
