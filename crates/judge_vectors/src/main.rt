@@ -6,12 +6,27 @@ use case_lines::answer::Answer;
 use case_lines::case::Case;
 use rules::breach::Breach;
 use rules::refusal::Refusal;
+use std::alloc::{AllocError, Global};
 use std::io;
 use std::io::{BufRead, BufReader};
 
-// What the judge finds at the set of that name.
-fn judged(name: &[u8], log: &[u8]) -> Result<(usize, Option<Breach>), Refusal> {
-    judge_by(RuleSet::try_from(name)?, log)
+// The set that the line's first word names.
+fn set_of(line: &str) -> Result<RuleSet, Refusal> {
+    let name = line.split_whitespace().next().ok_or(Refusal::Spelling)?;
+    Ok(RuleSet::try_from(name.as_bytes())?)
+}
+
+// What the judge finds in the line's log. The set is looked for first: of a line that names none, no log is read.
+fn found_in(
+    heap: Global,
+    line: &str,
+) -> Result<Result<(usize, Option<Breach>), Refusal>, AllocError> {
+    let set = match set_of(line) {
+        Ok(set) => set,
+        Err(why) => return Ok(Err(why)),
+    };
+    let read = Case::of(heap, line)?;
+    Ok(read.and_then(|case| judge_by(set, case.log.as_slice())))
 }
 
 fn main(rt: HostRuntime) -> io::Result<()> {
@@ -19,8 +34,7 @@ fn main(rt: HostRuntime) -> io::Result<()> {
     // The loop stands in both programs of cases: a function for it would take the judging, and would have to ask that it may be called.
     for line in BufReader::new(heap, rt.stdin())?.lines(heap) {
         let line = line?;
-        let read = Case::of(heap, line.as_str())?;
-        let found = read.and_then(|case| judged(case.name, case.log.as_slice()));
+        let found = found_in(heap, line.as_str())?;
         println!(rt; "{}", Answer(found))?;
     }
     Ok(())
