@@ -20,13 +20,14 @@ impl<'a> Input<'a> {
         Input { name, log }
     }
 
-    // What is left of the log without its white space.
+    // What is left of the log without its white space: a blank, a tab, a line end, a form feed or a carriage return. The library's test asks in
+    // three ranges, and takes nearly twice as long where most bytes are blanks.
     pub fn letters(&self, heap: Global) -> Result<Vec<u8>, AllocError>
         ensures { IfOk result (λ v. v.items ≡ filter inked self.now.log.now) }
     {
         self.log
             .iter()
-            .filter(|byte| !byte.is_ascii_whitespace())
+            .filter(|byte| !matches!(**byte, b' ' | b'\t' | b'\n' | 0x0c | b'\r'))
             .copied()
             .collect(heap)
     }
