@@ -13,7 +13,6 @@ use Rattle.planning.specs.Serving.{InWindow}
 use Rattle.planning.specs.Labels.{stop_at, Begun, Covers}
 use Rattle.planning.specs.Moves.{ready, label_at, lead, move, serves_all}
 use Rattle.planning.specs.Plain.{Plainly}
-use Rattle.planning.proofs.Laws.{Laws}
 use Rattle.planning.proofs.Starts.{Sensible}
 use Rattle.planning.proofs.Leads.{rested, driven, worked, ready_parts, ready_from, serves_parts, serves_from, lead_rest, rest_leads, lead_drive, drive_leads, lead_work, work_leads, last_work_leads, move_parts, move-made}
 use Rattle.planning.proofs.Covering.{covers_plain, plain_covers}
@@ -62,7 +61,11 @@ module _ {R : Type 0} (better : R → R → Type 0) (stops : List Stop) (q f : �
         e,
       )
 
-module _ {R : Type 0} {names : R → ℕ → Duty → Option Violation} {after : R → ℕ → Duty → R} {better : R → R → Type 0} {sound : R → Type 0} (laws : Laws names after better sound) (stops : List Stop) where
+module _ {R : Type 0} (names : R → ℕ → Duty → Option Violation) (after : R → ℕ → Duty → R) (better : R → R → Type 0) (sound : R → Type 0) (stops : List Stop)
+    (transitive : (s t u : R) → better s t → better t u → better s u)
+    (rests : (s : R) (q : ℕ) → sound s → q < 2688 → names s q Rest ≡ None)
+    (keeps : (a b : R) (q : ℕ) (x : Duty) → sound a → sound b → q < 2688 → better a b → names b q x ≡ None → (names a q x ≡ None) × better (after a q x) (after b q x))
+    (relieves : (s : R) (q : ℕ) → sound s → q < 2688 → names s q Drive ≡ None → better (after s q Rest) (after s q Drive)) where
   module _ (q : ℕ) (early : q < 2688) (a b : Label R) (sa : Sensible stops a) (sb : Sensible stops b) (oa : sound a.row) (ob : sound b.row) (c : Covers better stops a b) where
     -- a has a move to a label that covers b'
     abbrev Answered : ℕ → Label R → Type 0
@@ -70,7 +73,7 @@ module _ {R : Type 0} {names : R → ℕ → Duty → Option Violation} {after :
 
     answer : (f : ℕ) (b' : Label R) (x : Duty) → (names b.row q x ≡ None) → lead stops q f b (after b.row q x) x ≡ Some b' → Answered f b'
     answer f b' Rest n e =
-        let (na, up) = laws.keeps a.row b.row q Rest oa ob early c.row n in
+        let (na, up) = keeps a.row b.row q Rest oa ob early c.row n in
         let (t, same) = lead_rest stops q f b (after b.row q Rest) b' e in
         let s = after a.row q Rest in (
           Rest,
@@ -79,7 +82,7 @@ module _ {R : Type 0} {names : R → ℕ → Duty → Option Violation} {after :
           subst (Covers better stops (rested f a s)) same (covers-rested better stops q f a b sa sb c s (after b.row q Rest) up),
         )
     answer f b' Drive n e =
-        let (na, up) = laws.keeps a.row b.row q Drive oa ob early c.row n in
+        let (na, up) = keeps a.row b.row q Drive oa ob early c.row n in
         let (t, some, same) = lead_drive stops q f b (after b.row q Drive) b' e in
         let fresh = unbegun better stops q f a b sa sb c t in
         let s = after a.row q Drive in
@@ -88,8 +91,8 @@ module _ {R : Type 0} {names : R → ℕ → Duty → Option Violation} {after :
         (λ l. (
           Rest,
           rested f a r,
-          move-made names after stops q f a _ Rest (laws.rests a.row q oa early) (rest_leads stops q f a r _ fresh refl),
-          subst (Covers better stops (rested f a r)) same (covers_less better stops q f a b sa sb c r (after b.row q Drive) (laws.transitive _ _ _ (laws.relieves a.row q oa early na) up) l),
+          move-made names after stops q f a _ Rest (rests a.row q oa early) (rest_leads stops q f a r _ fresh refl),
+          subst (Covers better stops (rested f a r)) same (covers_less better stops q f a b sa sb c r (after b.row q Drive) (transitive _ _ _ (relieves a.row q oa early na) up) l),
         ))
         (λ l. (
           Drive,
@@ -99,7 +102,7 @@ module _ {R : Type 0} {names : R → ℕ → Duty → Option Violation} {after :
         ))
         (cases_lt a.drive b.drive)
     answer f b' Work n e =
-        let (na, up) = laws.keeps a.row b.row q Work oa ob early c.row n in
+        let (na, up) = keeps a.row b.row q Work oa ob early c.row n in
         let (r, ways) = lead_work stops q f b (after b.row q Work) b' e in
         let set = covers-ready better stops q f a b sa sb c r in
         let p = covers_plain better stops a b sa sb c in
@@ -127,4 +130,4 @@ module _ {R : Type 0} {names : R → ℕ → Duty → Option Violation} {after :
   monotone_serves q early a b sa sb oa ob c e =
       let t = serves_parts stops q b names e in
       let p = covers_plain better stops a b sa sb c in
-      serves_from stops q a names ((laws.keeps a.row b.row q Work oa ob early c.row t.0).0, covers-ready better stops q 0 a b sa sb c t.1, p.1 ∙ t.2, ap (λ i. i + 1) p.0 ∙ t.3)
+      serves_from stops q a names ((keeps a.row b.row q Work oa ob early c.row t.0).0, covers-ready better stops q 0 a b sa sb c t.1, p.1 ∙ t.2, ap (λ i. i + 1) p.0 ∙ t.3)

@@ -111,7 +111,7 @@ module _ {R : Type 0} {names : R → ℕ → Duty → Option Violation} {after :
       let (j, in-F, c) = right.cover.all a (alive_back names after stops q b.from a b x e alive) ra in
       let aj = get_or F j a in
       let rj = (right.cover.each j a in-F).1 in
-      let (y, a', e', c') = monotone set.laws stops q early aj a b b.from x (sensible q aj rj) (sensible q a ra) (sounds q aj rj) (sounds q a ra) c e in
+      let (y, a', e', c') = monotone names after better sound stops set.laws.transitive set.laws.rests set.laws.keeps set.laws.relieves q early aj a b b.from x (sensible q aj rj) (sensible q a ra) (sounds q aj rj) (sounds q a ra) c e in
       let (k, in-G, g) = kept-covers names after better stops q aj a' y b.from G (kept j a y in-F) e' (alive-covers stops (q + 1) better a' b c' alive) b in
       (k, in-G, covers_trans better stops set.laws.transitive (get_or G k b) a' b g c')
 
@@ -141,4 +141,4 @@ module _ {R : Type 0} {names : R → ℕ → Duty → Option Violation} {after :
       let (j, in-F, c) = right.cover.all a (alive-serves stops q names a serve) ra in
       let aj = get_or F j a in
       let rj = (right.cover.each j a in-F).1 in
-      both_ways (serves_all names stops q aj) (none j a in-F) (monotone_serves set.laws stops q early aj a (sensible q aj rj) (sensible q a ra) (sounds q aj rj) (sounds q a ra) c serve)
+      both_ways (serves_all names stops q aj) (none j a in-F) (monotone_serves names after better sound stops set.laws.transitive set.laws.rests set.laws.keeps set.laws.relieves q early aj a (sensible q aj rj) (sensible q a ra) (sounds q aj rj) (sounds q a ra) c serve)
