@@ -1,7 +1,7 @@
 -- The break keeps just its sentence.
-use Rattle.std.specs.Prelude.{◌≡◌, ℕ, suc, ◌+◌, Bool, true, false, cond, List, [], ◌∷◌, None, ◌==◌, refl}
-use Rattle.std.proofs.Common.{inl, sym, ap, ◌∙◌}
-use Rattle.std.proofs.lemmas.Bool.{cond-true, cond-false, eqb-true, eqb-false}
+use Rattle.std.specs.Prelude.{◌≡◌, ℕ, suc, ◌+◌, Bool, true, false, cond, ◌||◌, List, [], ◌∷◌, None, ◌==◌, nat_lt, refl}
+use Rattle.std.proofs.Common.{inl, ⊎_elim, sym, ap, ◌∙◌, arith}
+use Rattle.std.proofs.lemmas.Bool.{cond-true, cond-false, or_cases, ltb-true, eqb-true, eqb-false}
 use Rattle.duty.specs.declared.Duty.{Duty}
 use Rattle.duty.specs.declared.Duty.TheVariants.{Rest, Work, Drive}
 use Rattle.duty.specs.Duties.{driving}
@@ -17,6 +17,10 @@ use Rattle.books.specs.Broken.{FirstBroken}
 use Rattle.books.specs.Counters.{counted, counted_full, counted_more}
 use Rattle.books.specs.Limits.{undriven, counted_test}
 use Rattle.books.specs.Tied.{Tied, moved_on}
+
+-- beside a full run the count is 0
+pub full_none : (run full counted : ℕ) → (nat_lt run full || counted == 0) ≡ true → run ≡ full → counted ≡ 0
+full_none run full counted e is = ⊎_elim (λ short. absurd (omega (arith, ltb-true run full short))) (eqb-true counted 0) (or_cases (nat_lt run full) (counted == 0) e)
 
 module _ (limit len : ℕ) (kind : Pause) where
   abbrev break_at : List Duty → ℕ → BreakRow

@@ -1,7 +1,7 @@
 -- Eight counts, one to a day: their order and their bounds, before and after a quarter.
 use Rattle.std.specs.Prelude.{◌≡◌, ℕ, zero, suc, ◌+◌, ◌-◌, ◌%◌, ◌<◌, ◌≤◌, min, Bool, true, false, cond, ◌&&◌, List, [], ◌∷◌, length, sum, Decides, ◌==◌, nat_lt, slice_index, refl}
-use Rattle.std.proofs.Common.{sym, ap, subst, ◌∙◌, arith}
-use Rattle.std.proofs.lemmas.Bool.{and_parts, and_from, leb-true, le-leb, eqb-false}
+use Rattle.std.proofs.Common.{inl, inr, sym, ap, subst, ◌∙◌, arith}
+use Rattle.std.proofs.lemmas.Bool.{cases_Bool, and_parts, and_from, leb-true, le-leb, eqb-false}
 use Rattle.std.proofs.lemmas.Bool.Decides.{nat_tests}
 use Rattle.std.proofs.lemmas.List.FromFn.{fill_by_all}
 use Rattle.books.specs.Bounds.{CycleCounts, most_on}
@@ -117,6 +117,10 @@ true_within f (n ∷ on) h = and_from _ _ (le-leb n (f 0) (h 0)) (true_within (�
 
 pub decides_within : (f : ℕ → ℕ) (on : List ℕ) → Decides (all_within f on) ((i : ℕ) → slice_index on i ≤ f i)
 decides_within f on = (within_true f on, true_within f on)
+
+pub not_within : (f : ℕ → ℕ) (on : List ℕ) (i : ℕ) → f i < slice_index on i → all_within f on ≡ false
+not_within f on i h =
+    elim (cases_Bool (all_within f on)) [ inl e ↦ absurd (omega (arith, within_true f on e i)) | inr e ↦ e ]
 
 -- eight counts in all
 pub sum_of_eight : (on : List ℕ) → length on ≡ 8 → sum on ≡ total_on on

@@ -1,6 +1,6 @@
 -- Limits on what has gone by since the latest pause: a sentence about every such quarter s against the book's own counters.
 -- What a sentence keeps is told in two halves, what it asks of every s and that this is enough.
-use Rattle.std.specs.Prelude.{◌≡◌, ℕ, ◌+◌, ◌-◌, ◌<◌, ◌≤◌, Bool, true, false, cond, List, [], ◌∷◌, Some, None, Option, nat_le, refl}
+use Rattle.std.specs.Prelude.{◌≡◌, ℕ, ◌+◌, ◌-◌, ◌<◌, ◌≤◌, Bool, true, false, cond, List, [], ◌∷◌, Some, None, Option, ◌≢◌, nat_le, refl}
 use Rattle.std.proofs.Common.{sym, ap, subst, ◌∙◌, arith}
 use Rattle.std.proofs.lemmas.Bool.{false≢true, leb-true, leb-false}
 use Rattle.duty.specs.declared.Duty.{Duty}
@@ -13,6 +13,10 @@ use Rattle.rules.specs.declared.breach.Violation.{Violation}
 use Rattle.books.specs.Broken.{FirstBroken, broken_test, named}
 use Rattle.books.specs.Counters.{elapsed_at, counted}
 use Rattle.books.specs.Sentences.{Rule, Keeps}
+
+-- a status with c is not one without
+pub status_not : (c : Duty → Bool) (x y z : Duty) → x ≡ y → c y ≡ false → x ≡ z → c z ≢ true
+status_not c x y z e stands e' is = false≢true (sym stands ∙ ap c (sym e ∙ e') ∙ is)
 
 -- a quarter that is not driven keeps whatever is asked of driving
 pub undriven : {P : Type 0} (x y : Duty) → x ≡ y → driving y ≡ false → x ≡ Drive → P

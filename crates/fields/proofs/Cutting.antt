@@ -1,8 +1,23 @@
 -- Bytes cut at a mark.
-use Rattle.std.proofs.Common.{◌≡◌, ℕ, zero, suc, ◌<◌, Bool, true, not, ◌&&◌, eqb, List, [], ◌∷◌, ◌++◌, length, get_or, drop, sym, refl, ap, inl, inr, arith}
-use Rattle.std.proofs.lemmas.List.{length-append}
+use Rattle.std.proofs.Common.{◌≡◌, ℕ, zero, suc, ◌+◌, ◌-◌, ◌<◌, Bool, true, not, ◌&&◌, eqb, List, [], ◌∷◌, ◌++◌, length, get_or, take, drop, sym, refl, ap, ◌∙◌, inl, inr, arith}
+use Rattle.std.proofs.lemmas.List.{take-append-drop, drop_more, get_or-take, length-append, length-take, take_rest}
 use Rattle.std.proofs.lemmas.Bool.{and_parts, eqb-false, not-true}
-use Rattle.fields.specs.Cuts.{Lacks, FirstLine}
+use Rattle.fields.specs.Cuts.{Lacks, Parted, FirstLine}
+
+pub cut_at : (mark : ℕ) (bytes : List ℕ) (i : ℕ) → i < length bytes → get_or bytes i 0 ≡ mark → ((k : ℕ) → k < i → get_or bytes k 0 ≡ mark → ⊥) → Parted mark bytes (take (i - 0) bytes) (take (length bytes - (i + 1)) (drop (i + 1) bytes))
+cut_at mark bytes i within is before =
+    let same : i - 0 ≡ i = omega arith in
+    record {
+      unbroken = λ k lt e.
+          let below : k < i = omega (arith, length-take (i - 0) bytes) in
+          let under : k < i - 0 = omega arith in
+          before k below (sym (get_or-take (i - 0) bytes k 0 under) ∙ e);
+      whole =
+          sym (take-append-drop i bytes)
+          ∙ ap (λ xs. take i bytes ++ xs) (drop_more bytes i 0 within ∙ ap (λ b. b ∷ drop (i + 1) bytes) is)
+          ∙ ap (λ n. take n bytes ++ mark ∷ drop (i + 1) bytes) (sym same)
+          ∙ ap (λ xs. take (i - 0) bytes ++ mark ∷ xs) (sym (take_rest bytes (i + 1)));
+    }
 
 -- what lacks the mark still lacks it without its first byte
 pub lacks_tail : (mark x : ℕ) (xs : List ℕ) → Lacks mark (x ∷ xs) → Lacks mark xs

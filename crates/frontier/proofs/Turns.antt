@@ -1,5 +1,5 @@
 -- One turn of the compaction. Assumes nothing.
-use Rattle.std.proofs.Common.{◌≡◌, ℕ, ◌+◌, ◌<◌, ◌≤◌, List, [], ◌∷◌, ◌++◌, length, get_or, take, drop, set, sym, ap, ◌∙◌, subst, arith}
+use Rattle.std.proofs.Common.{◌≡◌, ℕ, ◌+◌, ◌<◌, ◌≤◌, List, [], ◌∷◌, ◌++◌, length, get_or, take, drop, set, sym, refl, ap, ◌∙◌, subst, arith}
 use Rattle.std.proofs.lemmas.List.{length-set, take_more, take_more_set, take-set-le, drop_more, drop-set-lt, set-get_or}
 use Rattle.frontier.specs.Offer.{Without}
 use Rattle.frontier.proofs.Lefts.{without_leaves, without_stays}
@@ -14,6 +14,9 @@ module _ {X : Type 0} (covers : X → X → Type 0) (x : X) where
     pub within : i ≤ length xs
     pub long : length ys ≡ length xs
     pub same : k ≡ i → ys ≡ xs
+
+  pub compacting_from : (xs : List X) (i : ℕ) → i ≤ length xs → Without covers x (take i xs) (take i xs) → Compacting xs xs i i
+  compacting_from xs i within w = record { front = w; rest = refl; behind = omega arith; within = within; long = refl; same = λ _. refl }
 
   module _ {xs ys : List X} {k i : ℕ} where
     both : (y : X) → Compacting xs ys k i → i < length ys → y ≡ get_or ys i y → y ∷ drop (i + 1) ys ≡ get_or xs i y ∷ drop (i + 1) xs

@@ -1,12 +1,13 @@
 -- What a frontier keeps that is offered, one by one, what stands in its own places. Assumes nothing.
-use Rattle.std.proofs.Common.{◌≡◌, ℕ, ◌+◌, ◌-◌, ◌<◌, ◌≤◌, List, [], ◌∷◌, ◌++◌, length, get_or, take, drop, IfOk, Result, sym, ap, ◌∙◌, subst, arith, MatchResult}
-use Rattle.std.proofs.lemmas.List.{take_more, drop_more, drop-drop}
+use Rattle.std.proofs.Common.{◌≡◌, ℕ, ◌+◌, ◌<◌, ◌≤◌, List, [], ◌∷◌, ◌++◌, length, get_or, take, drop, IfOk, Result, sym, ap, ◌∙◌, subst, arith, MatchResult}
+use Rattle.std.proofs.lemmas.List.{take_more, drop_more}
 use Rattle.frontier.specs.Cover.{SmallestCover, StillSmallest}
 use Rattle.frontier.specs.Offer.{Offered, LacksPlace}
 use Rattle.frontier.specs.Places.{all, kept, SameBeyond}
 use Rattle.frontier.specs.declared.container.Frontier.{Frontier}
 use Rattle.frontier.specs.declared.refusal.Refusal.{Refusal}
 use Rattle.frontier.proofs.Exact.{taken}
+use Rattle.frontier.proofs.Outcome.{drop_later}
 use Rattle.frontier_pairs.specs.Pairs.{NoLarger}
 use Rattle.frontier_pairs.specs.declared.pair.Pair.{Pair}
 
@@ -16,11 +17,6 @@ pub record Moved (xs : List Pair) (f : Frontier Pair) (i : ℕ) : Type 0 where
   pub fewer : length (kept f) ≤ i
   pub rest : drop i (all f) ≡ drop i xs
   pub long : length (all f) ≡ length xs
-
-drop_later : {X : Type 0} (xs ys : List X) (n m : ℕ) → n ≤ m → drop n ys ≡ drop n xs → drop m ys ≡ drop m xs
-drop_later xs ys n m le e =
-    let split : m ≡ n + (m - n) = omega arith in
-    rw split (rw (← drop-drop (m - n) n ys, ← drop-drop (m - n) n xs) (ap (drop (m - n)) e))
 
 pub moved_more : (xs places : List Pair) (f g : Frontier Pair) (i : ℕ) (x d : Pair) (r : Result (Unit {0}) Refusal)
     → Moved xs f i → i < length xs → places ≡ all f → x ≡ get_or places i d

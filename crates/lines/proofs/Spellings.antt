@@ -2,6 +2,7 @@
 use Rattle.std.proofs.Common.{◌≡◌, ℕ, zero, suc, ◌≤◌, false, eqb, List, [], ◌∷◌, ◌++◌, get_or, drop, Ok, codes, decimal, sym, refl, ap, ◌∙◌, subst, arith}
 use Rattle.std.proofs.lemmas.Fmt.{decimal_injective}
 use Rattle.std.proofs.lemmas.Bool.{eqb-false}
+use Rattle.books.specs.declared.sets.RuleSet.{RuleSet}
 use Rattle.books.specs.Names.{set_name}
 use Rattle.fields.proofs.Cutting.{parted_once, lacks_not, lacks_so}
 use Rattle.fields.proofs.Numerals.{led_once, small}
@@ -68,6 +69,14 @@ module _ (place : ℕ) (fields : List ℕ) where
 
   pub stop_reads : (stop : Stop) → Fits place (line.Call (Add stop)) → fields ≡ stop_fields stop → Reads place (codes "stop," ++ fields) (Ok (line.Call (Add stop)))
   stop_reads stop fits e = (record { fits = fits; spelling = ap (λ fs. codes "stop," ++ fs) e }, stop_only stop fits e)
+
+  -- rules
+  pub not_rules : ((s : RuleSet) → place ≡ 1 → fields ≡ set_name s → ⊥) → (x : Line) → Says place (codes "rules," ++ fields) x → ⊥
+  not_rules none (line.Rules s) h = none s h.fits (ap (drop 6) h.spelling)
+  not_rules none (line.Call (Record letter count)) h = differ 114 100 _ _ refl h.spelling
+  not_rules none (line.Call (Add stop)) h = differ 114 115 _ _ refl h.spelling
+  not_rules none (line.Call Drop) h = differ 114 100 _ _ refl h.spelling
+  not_rules none (line.Call (Plan buffers)) h = differ 114 112 _ _ refl h.spelling
 
 -- words and kinds of no line
 module _ (place : ℕ) where

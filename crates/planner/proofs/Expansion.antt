@@ -68,10 +68,16 @@ module _ {R : Type 0} (names : R → ℕ → Duty → Option Violation) (after :
         }
 
     -- what is left at the front of the places
-    pub expanded-all : (f : Frontier (Label R)) (j n : ℕ) (labels : List (Label R))
+    pub expanded-all : (f : Frontier (Label R)) (j count n : ℕ) (labels : List (Label R))
+        → Expanded names after better stops q front places f j → j ≡ count → n ≡ length (kept f) → labels ≡ take n (all f)
+        → SmallestCover (Plainly better) labels (layer names after stops q 0 (take count front))
+    expanded-all f j count n labels e end is first =
+        subst (λ k. SmallestCover (Plainly better) labels (layer names after stops q 0 (take k front))) end
+        (subst (λ l. SmallestCover (Plainly better) l (layer names after stops q 0 (take j front))) (sym (first ∙ front_of f (all f) n is refl)) e.smallest)
+
+    -- the same of the whole layer
+    pub expanded-whole : (f : Frontier (Label R)) (j n : ℕ) (labels : List (Label R))
         → Expanded names after better stops q front places f j → j ≡ length front → n ≡ length (kept f) → labels ≡ take n (all f)
         → SmallestCover (Plainly better) labels (layer names after stops q 0 front)
-    expanded-all f j n labels e end is first =
-        let whole : take j front ≡ front = take_all j front (omega arith) in
-        subst (λ l. SmallestCover (Plainly better) labels (layer names after stops q 0 l)) whole
-        (subst (λ l. SmallestCover (Plainly better) l (layer names after stops q 0 (take j front))) (sym (first ∙ front_of f (all f) n is refl)) e.smallest)
+    expanded-whole f j n labels e end is first =
+        subst (λ l. SmallestCover (Plainly better) labels (layer names after stops q 0 l)) (take_all j front (omega arith)) (expanded-all f j j n labels e refl is first)

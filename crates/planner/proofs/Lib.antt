@@ -9,6 +9,7 @@ pub mod Filling
 pub mod Carrying
 pub mod Touring
 pub mod Spans
+pub mod Concluding
 pub mod Answered
 pub mod Promised
 pub mod Standings

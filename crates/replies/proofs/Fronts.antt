@@ -1,10 +1,15 @@
 -- The letters at the front of a list that are equal to its first, as `chunk_by` gives them.
-use Rattle.std.proofs.Common.{◌≡◌, ℕ, zero, suc, ◌+◌, ◌-◌, ◌<◌, true, eqb, List, [], ◌∷◌, ◌++◌, length, get_or, replicate, sym, refl, ap, ◌∙◌, subst, arith}
+use Rattle.std.proofs.Common.{◌≡◌, ℕ, zero, suc, ◌+◌, ◌-◌, ◌<◌, ◌≤◌, true, eqb, List, [], ◌∷◌, ◌++◌, length, get_or, take, replicate, sym, refl, ap, ◌∙◌, subst, arith}
 use Rattle.std.proofs.lemmas.Bool.{eqb-true, eqb-false}
-use Rattle.std.proofs.lemmas.List.{ext_get_or, get_or_append_left, get_or_at, get_or-replicate, length-append, length-replicate}
+use Rattle.std.proofs.lemmas.List.{ext_get_or, get_or-take, get_or_append_left, get_or_at, get_or-replicate, length-append, length-take-le, length-replicate}
 use Rattle.std.specs.List.{AllAdjacentBelow, IsChunkByPrefix}
 use Rattle.replies.specs.declared.runs.Run.{Run}
 use Rattle.replies.specs.Schedules.{Differs, RunsFrom}
+
+pub equal_front : (xs : List ℕ) (n x : ℕ) → n ≤ length xs → ((k : ℕ) → k < n → get_or xs k 0 ≡ x) → take n xs ≡ replicate n x
+equal_front xs n x le each =
+    ext_get_or 0 (take n xs) (replicate n x) (length-take-le n xs le ∙ sym (length-replicate n x))
+    (λ k lt. let below : k < n = omega (arith, length-take-le n xs le) in get_or-take n xs k 0 below ∙ each k below ∙ sym (get_or-replicate n k x 0 below))
 
 module _ (xs : List ℕ) (n : ℕ) where
   equal_first : AllAdjacentBelow (λ x y. eqb x y ≡ true) xs n → (k : ℕ) → k < n → get_or xs k 0 ≡ get_or xs 0 0

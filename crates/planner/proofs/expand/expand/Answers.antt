@@ -1,6 +1,6 @@
 use Rattle.std.proofs.Common.{◌≡◌, length, take, refl, ap, ◌∙◌, arith, rules}
 use Rattle.frontier.specs.Places.{all}
-use Rattle.planner.proofs.Expansion.{expanded_more, expanded-all}
+use Rattle.planner.proofs.Expansion.{expanded_more, expanded-whole}
 use Rattle.planner.proofs.expand.expand.Goals as goal
 
 pub loop-j-init : goal.loop-j-init
@@ -38,7 +38,7 @@ returns g c =
     let end : c.loop-j.j ≡ length c.args.labels.now = omega arith in
     let first : c.split_at.result.0.now ≡ take c.count-kept.result (all f) = search rules in
     record {
-      smallest = expanded-all g.B.RuleBook.names g.B.RuleBook.after c.args.moment.stops.now c.args.moment.quarter g.B.Row.Figures.better c.args.labels.now _
+      smallest = expanded-whole g.B.RuleBook.names g.B.RuleBook.after c.args.moment.stops.now c.args.moment.quarter g.B.Row.Figures.better c.args.labels.now _
           f c.loop-j.j c.count-kept.result _ c.loop-j.invariant.0 end c.count-kept.ensures first;
       few = omega (arith, c.loop-j.invariant.0.few, c.count-kept.ensures, end, ap length first);
     }
