@@ -15,7 +15,8 @@ fn main(rt: HostRuntime) -> io::Result<()> {
     for line in BufReader::new(heap, rt.stdin())?.lines(heap) {
         let line = line?;
         if !line.as_str().starts_with("#") {
-            let read = Case::of(heap, line.as_str())?;
+            // Blanks in front are cut off once, and not passed over by each reader again.
+            let read = Case::of(heap, line.as_str().trim_start())?;
             let found = read.and_then(|case| piles::judged(case.name, case.log.as_slice()));
             println!(rt; "{}", Answer(found))?;
         }

@@ -21,6 +21,8 @@ fn found_in(
     heap: Global,
     line: &str,
 ) -> Result<Result<(usize, Option<Breach>), Refusal>, AllocError> {
+    // Cut off once, so that blanks in front are not passed over by each reader again.
+    let line = line.trim_start();
     let set = match set_of(line) {
         Ok(set) => set,
         Err(why) => return Ok(Err(why)),
