@@ -27,6 +27,13 @@ pub offered-put : {X : Type 0} (covers : X → X → Type 0) (x : X) (xs : List 
     → (Covered covers (take count xs) x → ⊥) → Without covers x (take count xs) (take left ys) → left < length ys → Offered covers (take count xs) x (take (left + 1) (set ys left x))
 offered-put covers x xs count ys left new w room = inr (new, (take left ys, w, take_more_set ys left x room))
 
+-- where all stay and fill the places, x would be put behind them, and does not fit
+pub offered-over : {X : Type 0} (covers : X → X → Type 0) (x : X) (xs : List X) (count : ℕ) (ys : List X) (left : ℕ)
+    → (Covered covers (take count xs) x → ⊥) → Without covers x (take count xs) (take left ys) → left ≡ length ys → length ys ≡ length xs
+    → (after : List X) × Offered covers (take count xs) x after × (length xs < length after)
+offered-over covers x xs count ys left new w full long =
+    (take left ys ++ (x ∷ []), inr (new, (take left ys, w, refl)), omega (arith, length_push (take left ys) x, length-take-le left ys (omega arith)))
+
 module _ {X : Type 0} (covers : X → X → Type 0) (x : X) (xs : List X) (count : ℕ) (ys : List X) (left : ℕ)
     (new : Covered covers (take count xs) x → ⊥) (w : Without covers x (take count xs) (take left ys)) (fewer : left ≤ length (take count xs)) (room : length ys ≡ length (take count xs)) where
   -- x is put last
